@@ -1,0 +1,63 @@
+// Each helper may require what its caller tested.
+ghost use mathlib.Core.Path.{_≡_};
+ghost use Prim.Native.Nat.{ℕ, _+_, _*_, _≤_, _<_};
+ghost use lib.ListN.{length, set};
+ghost use Rattle.steps.specs.Num.{cell};
+ghost use Rattle.steps.specs.Space.{cleared, part, withPart, swapped};
+
+// Row i, column j of a matrix of n columns.
+pub fn cell(a: &[f64], n: usize, i: usize, j: usize) -> f64
+    requires { ⌜ i * n + j < length (now a) ⌝ }
+    ensures { λ r. ⌜ r ≡ cell n (now (a .entry)) i j ⌝ }
+{
+    a[i * n + j]
+}
+
+// Row i, column j becomes x.
+pub fn put(a: &mut [f64], n: usize, i: usize, j: usize, x: f64)
+    requires { ⌜ i * n + j < length (now a) ⌝ }
+    ensures { λ _. ⌜ now (a .exit) ≡ set (now (a .entry)) (i * n + j) x ⌝ }
+{
+    a[i * n + j] = x;
+}
+
+// The first k numbers become +0.0.
+pub fn clear(s: &mut [f64], k: usize)
+    requires { ⌜ k ≤ length (now s) ⌝ }
+    ensures { λ _. ⌜ now (s .exit) ≡ cleared k (now (s .entry)) ⌝ }
+{
+    for i in 0..k {
+        s[i] = 0.0;
+    }
+}
+
+// A slice of the same length becomes another.
+pub fn copy(from: &[f64], to: &mut [f64])
+    requires { ⌜ length (now from) ≡ length (now to) ⌝ }
+    ensures { λ _. ⌜ now (to .exit) ≡ now (from .entry) ⌝ }
+{
+    let n = from.len();
+    for i in 0..n {
+        to[i] = from[i];
+    }
+}
+
+// The n numbers from `to` on become those from `from` on, which stand before them.
+pub fn copy_within(s: &mut [f64], from: usize, to: usize, n: usize)
+    requires { ⌜ (from + n ≤ to) × (to + n ≤ length (now s)) ⌝ }
+    ensures { λ _. ⌜ now (s .exit) ≡ withPart to (to + n) (part from (from + n) (now (s .entry))) (now (s .entry)) ⌝ }
+{
+    for i in 0..n {
+        s[to + i] = s[from + i];
+    }
+}
+
+// The numbers at x and y change places.
+pub fn swap(a: &mut [f64], x: usize, y: usize)
+    requires { ⌜ (x < length (now a)) × (y < length (now a)) ⌝ }
+    ensures { λ _. ⌜ now (a .exit) ≡ swapped x y (now (a .entry)) ⌝ }
+{
+    let t = a[x];
+    a[x] = a[y];
+    a[y] = t;
+}

@@ -1,0 +1,2 @@
+// Helpers on lent slices, for the crates above: nothing here is a public call.
+pub mod inner;

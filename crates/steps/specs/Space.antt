@@ -1,0 +1,130 @@
+-- A workspace, its parts, and what clearing and swapping leave. Assumes nothing.
+use mathlib.Core.Path.{_≡_, refl, sym, ap, _∙_, subst}
+use mathlib.Core.List.{List, [], _∷_, _++_}
+use Prim.Native.Nat.{ℕ, zero, suc, _+_, _-_, _*_, _≤_, _<_}
+use native.Mathlib.Nat.{not-suc-le-zero, le-of-suc-le-suc, zero-add, suc-add, add-zero}
+use native.Mathlib.Numerals.{add-one}
+use native.Mathlib.Omega.{arith}
+use lib.ListN.{length, set, length-set, take, drop, replicate, length-append, length-take, length-drop, getD, List·getD-append, take-append-drop}
+use lib.Seq.{take-at, drop-at, take-append-le, drop-append-le, drop-drop, drop-append-add, set-append-left, getD-append-add, getD-take, getD-drop}
+use lib.Ieee.{Float, nan}
+use Rattle.steps.specs.Num.{+zero, at}
+use Rattle.steps.specs.Table.{tab, is-tab}
+
+-- the first k numbers are +0.0, the others as they were
+unfoldable pub cleared : ℕ → List Float → List Float
+cleared k s = replicate k +zero ++ drop k s
+
+-- the part of s from a to below e
+abbrev pub part : ℕ → ℕ → List Float → List Float
+part a e s = take (e - a) (drop a s)
+
+-- s with the part from a to below e taken by t, as a lent part comes back
+unfoldable pub withPart : ℕ → ℕ → List Float → List Float → List Float
+withPart a e t s = take a s ++ (t ++ drop (e - a) (drop a s))
+
+-- l with the numbers at x and y changed over
+unfoldable pub swapped : ℕ → ℕ → List Float → List Float
+swapped x y l = set (set l x (at l y)) y (at l x)
+
+pub cleared-none : (s : List Float) → s ≡ cleared 0 s
+unfolding cleared
+cleared-none s = refl
+
+fill-suc : (k : ℕ) (v : Float) (d : List Float) → k < length d → set (replicate k v ++ drop k d) k v ≡ replicate (suc k) v ++ drop (suc k) d
+fill-suc k v [] l = absurd (not-suc-le-zero l)
+fill-suc zero v (x ∷ d) l = refl
+fill-suc (suc k) v (x ∷ d) l = ap (λ (t : List Float). v ∷ t) (fill-suc k v d (le-of-suc-le-suc l))
+
+pub cleared-more : (k : ℕ) (s : List Float) → k < length s → set (cleared k s) k +zero ≡ cleared (k + 1) s
+unfolding cleared
+cleared-more k s h = rw add-one (fill-suc k +zero s h)
+
+module _ (a e : ℕ) (t s : List Float) (h : a ≤ e) (h' : e ≤ length s) (len : length t ≡ e - a) where
+  before-len : length (take a s) ≡ a
+  before-len = simp length-take (omega arith)
+
+  pub length-with : length (withPart a e t s) ≡ length s
+  unfolding withPart
+  length-with = simp (length-append, length-take, length-drop) (omega (arith, len))
+
+  -- the part is what was put there
+  pub part-with : part a e (withPart a e t s) ≡ t
+  unfolding withPart
+  part-with = rw (drop-at (take a s) _ a before-len, take-at t _ (e - a) len)
+
+  -- what stands past k, at or past the part's end, is as it was
+  pub drop-with : (k : ℕ) → e ≤ k → drop k (withPart a e t s) ≡ drop k s
+  unfolding withPart
+  drop-with k hk =
+      let e₁ : k ≡ length (take a s) + (length t + (k - e)) = omega (arith, before-len, len) in
+      let e₂ : a + (e - a + (k - e)) ≡ k = omega arith in
+      ap (λ (n : ℕ). drop n (take a s ++ (t ++ drop (e - a) (drop a s)))) e₁
+      ∙ drop-append-add (take a s) _ _ ∙ drop-append-add t _ _
+      ∙ drop-drop (k - e) (e - a) (drop a s) ∙ drop-drop (e - a + (k - e)) a s ∙ ap (λ (n : ℕ). drop n s) e₂
+
+  -- putting it twice is putting the second
+  pub with-with : (u : List Float) → length u ≡ e - a → withPart a e u (withPart a e t s) ≡ withPart a e u s
+  unfolding withPart
+  with-with u hu = rw (take-at (take a s) _ a before-len, drop-at (take a s) _ a before-len, drop-at t _ (e - a) len)
+
+-- a store in what follows xs
+pub set-append-add : (xs ys : List Float) (k : ℕ) (v : Float) → set (xs ++ ys) (length xs + k) v ≡ xs ++ set ys k v
+set-append-add [] ys k v = rw zero-add
+set-append-add (x ∷ xs) ys k v = rw suc-add (ap (λ (l : List Float). x ∷ l) (set-append-add xs ys k v))
+
+-- a store, and a read, in a part
+pub set-with : (a e : ℕ) (t s : List Float) (k : ℕ) (v : Float) → a ≤ length s → k < length t → set (withPart a e t s) (a + k) v ≡ withPart a e (set t k v) s
+unfolding withPart
+set-with a e t s k v h hk =
+    let len : length (take a s) ≡ a = simp length-take (omega arith) in
+    subst (λ (n : ℕ). set (take a s ++ (t ++ drop (e - a) (drop a s))) (n + k) v ≡ take a s ++ (set t k v ++ drop (e - a) (drop a s))) len
+    (set-append-add (take a s) _ k v ∙ ap (λ (l : List Float). take a s ++ l) (set-append-left t _ k v hk))
+
+pub two-with : (a e : ℕ) (t s : List Float) (j k : ℕ) (v : Float) → a ≤ length s → j < length t → k < length t → set (set (withPart a e t s) (a + j) v) (a + k) v ≡ withPart a e (set (set t j v) k v) s
+two-with a e t s j k v h hj hk =
+    ap (λ (l : List Float). set l (a + k) v) (set-with a e t s j v h hj) ∙ set-with a e (set t j v) s k v h (simp length-set hk)
+
+pub get-with : (a e : ℕ) (t s : List Float) (k : ℕ) (d : Float) → a ≤ length s → k < length t → getD (withPart a e t s) (a + k) d ≡ getD t k d
+unfolding withPart
+get-with a e t s k d h hk =
+    let len : length (take a s) ≡ a = simp length-take (omega arith) in
+    subst (λ (n : ℕ). getD (take a s ++ (t ++ drop (e - a) (drop a s))) (n + k) d ≡ getD t k d) len
+    (getD-append-add (take a s) _ k d ∙ List·getD-append t _ d k hk)
+
+-- what stands before a part
+pub front-with : (a e : ℕ) (t s : List Float) → a ≤ length s → take a (withPart a e t s) ≡ take a s
+unfolding withPart
+front-with a e t s h = take-at (take a s) _ a (simp length-take (omega arith))
+
+-- a part as it is
+pub with-self : (a e : ℕ) (s : List Float) → s ≡ withPart a e (part a e s) s
+unfolding withPart
+with-self a e s = sym (rw (take-append-drop, take-append-drop))
+
+-- clearing looks only past the cleared numbers
+pub cleared-same : (k : ℕ) (s t : List Float) → drop k s ≡ drop k t → cleared k s ≡ cleared k t
+unfolding cleared
+cleared-same k s t h = ap (λ (l : List Float). replicate k +zero ++ l) h
+
+-- clearing a workspace forgets a part within what is cleared
+pub cleared-with : (a e k : ℕ) (t s : List Float) → a ≤ e → e ≤ k → k ≤ length s → length t ≡ e - a → cleared k (withPart a e t s) ≡ cleared k s
+cleared-with a e k t s h hk h' len = cleared-same k _ s (drop-with a e t s h (omega arith) len k hk)
+
+-- what stands before a part and past it is as it was
+pub get-before : (a e : ℕ) (t s : List Float) (k : ℕ) → k < a → a ≤ length s → at (withPart a e t s) k ≡ at s k
+unfolding withPart
+get-before a e t s k h h' = List·getD-append (take a s) _ nan k (simp length-take (omega arith)) ∙ getD-take a s k nan h
+
+pub get-after : (a e : ℕ) (t s : List Float) (k : ℕ) → a ≤ e → e ≤ length s → length t ≡ e - a → e ≤ k → at (withPart a e t s) k ≡ at s k
+get-after a e t s k h h' len hk =
+    sym (first (withPart a e t s)) ∙ ap (λ (l : List Float). getD l 0 nan) (drop-with a e t s h h' len k hk) ∙ first s
+  where
+    first : (l : List Float) → getD (drop k l) 0 nan ≡ at l k
+    first l = getD-drop k l 0 nan ∙ rw add-zero
+
+-- a part by its numbers
+pub part-tab : (a n : ℕ) (s : List Float) → a + n ≤ length s → part a (a + n) s ≡ tab n (λ i. at s (a + i))
+part-tab a n s h =
+    let e : a + n - a ≡ n = omega arith in
+    rw e (is-tab n (λ i. at s (a + i)) (take n (drop a s)) nan (simp (length-take, length-drop) (omega arith)) (λ i k. getD-take n (drop a s) i nan k ∙ getD-drop a s i nan))

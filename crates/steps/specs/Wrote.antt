@@ -1,0 +1,66 @@
+-- A loop that writes one place a turn, each place once: what stands there afterwards, whatever the order. Assumes nothing.
+use mathlib.Core.Path.{_≡_, refl, sym, ap, _∙_, subst}
+use mathlib.Core.Logic.{_⊎_, inl, inr, ⊎-elim}
+use mathlib.Core.List.{List}
+use Prim.Native.Nat.{ℕ, _+_, _-_, _≤_, _<_}
+use native.Mathlib.Nat.{eq-or-lt-of-le}
+use native.Mathlib.Omega.{arith}
+use lib.ListN.{length, set, length-set}
+use lib.Seq.{getD-set-same, getD-set-other, ext-getD}
+use lib.Ieee.{Float, nan}
+use Rattle.steps.specs.Num.{at}
+use Rattle.steps.specs.Cond.{lt-or-ge}
+use Rattle.steps.specs.Table.{tab, length-tab, getD-tab}
+use Rattle.steps.specs.Space.{withPart, length-with, get-before, get-with, get-after}
+
+-- d' is d with g c at the place p c, for each c from lo to below hi
+pub record Wrote (p : ℕ → ℕ) (lo hi : ℕ) (g : ℕ → Float) (d d' : List Float) : Type 0 where
+  pub long : length d' ≡ length d
+  pub done : (c : ℕ) → lo ≤ c → c < hi → at d' (p c) ≡ g c
+  pub rest : (k : ℕ) → ((c : ℕ) → lo ≤ c → c < hi → k ≡ p c → ⊥) → at d' k ≡ at d k
+
+-- the places are told apart by their numbers
+abbrev pub Apart : (ℕ → ℕ) → ℕ → ℕ → Type 0
+Apart p lo i = (c : ℕ) → lo ≤ c → c < i → p i ≡ p c → ⊥
+
+pub wrote-none : (p : ℕ → ℕ) (lo : ℕ) (g : ℕ → Float) (d : List Float) → Wrote p lo lo g d d
+wrote-none p lo g d = record { long = refl; done = λ c h h'. absurd (omega arith); rest = λ k ne. refl }
+
+-- the place of this turn is as it was
+pub wrote-now : (p : ℕ → ℕ) (lo i : ℕ) (g : ℕ → Float) (d d' : List Float) → Apart p lo i → Wrote p lo i g d d' → at d' (p i) ≡ at d (p i)
+wrote-now p lo i g d d' ne w = w .rest (p i) ne
+
+pub wrote-more : (p : ℕ → ℕ) (lo i : ℕ) (g : ℕ → Float) (d d' : List Float) (x : Float) → lo ≤ i → p i < length d → Apart p lo i → Wrote p lo i g d d' → x ≡ g i → Wrote p lo (i + 1) g d (set d' (p i) x)
+wrote-more p lo i g d d' x l b ne w e =
+    record {
+      long = length-set d' (p i) x ∙ w .long;
+      done = λ c h h'. ⊎-elim
+          (λ q. subst (λ (k : ℕ). at (set d' (p i) x) (p k) ≡ g k) (sym q) (getD-set-same d' (p i) x nan (subst (λ (k : ℕ). p i < k) (sym (w .long)) b) ∙ e))
+          (λ z. getD-set-other d' (p i) (p c) x nan (λ q. ne c h z (sym q)) ∙ w .done c h z)
+          (eq-or-lt-of-le (let z : c ≤ i = omega arith in z));
+      rest = λ k n. getD-set-other d' (p i) k x nan (λ q. n i l (omega arith) q) ∙ w .rest k (λ c h h' q. n c h (omega arith) q);
+    }
+
+-- a turn that changes what stands at its place
+pub wrote-turn : (p : ℕ → ℕ) (f : ℕ → Float → Float) (lo i : ℕ) (d d' : List Float) → lo ≤ i → p i < length d → Apart p lo i → Wrote p lo i (λ c. f c (at d (p c))) d d' → Wrote p lo (i + 1) (λ c. f c (at d (p c))) d (set d' (p i) (f i (at d' (p i))))
+wrote-turn p f lo i d d' l b ne w = wrote-more p lo i (λ c. f c (at d (p c))) d d' _ l b ne w (ap (f i) (wrote-now p lo i _ d d' ne w))
+
+pub wrote-end : (p : ℕ → ℕ) (lo i hi : ℕ) (g : ℕ → Float) (d d' : List Float) → Wrote p lo i g d d' → i ≤ hi → hi ≤ i → Wrote p lo hi g d d'
+wrote-end p lo i hi g d d' w h h' = let e : i ≡ hi = omega arith in rw e at w
+
+-- a part that is written by rising place
+pub wrote-part : (a n : ℕ) (g : ℕ → Float) (d d' : List Float) → a + n ≤ length d → Wrote (λ i. a + i) 0 n g d d' → d' ≡ withPart a (a + n) (tab n g) d
+wrote-part a n g d d' h w =
+    ext-getD nan d' (withPart a (a + n) (tab n g) d) (w .long ∙ sym (length-with a (a + n) (tab n g) d (omega arith) h len)) (λ k l. by k (lt-or-ge k a) (lt-or-ge k (a + n)))
+  where
+    len : length (tab n g) ≡ a + n - a
+    len = length-tab n g ∙ (let e : n ≡ a + n - a = omega arith in e)
+
+    by : (k : ℕ) → (k < a) ⊎ (a ≤ k) → (k < a + n) ⊎ (a + n ≤ k) → at d' k ≡ at (withPart a (a + n) (tab n g) d) k
+    by k (inl b) q = w .rest k (λ c x y e. omega arith) ∙ sym (get-before a (a + n) (tab n g) d k b (omega arith))
+    by k (inr b) (inr q) = w .rest k (λ c x y e. omega arith) ∙ sym (get-after a (a + n) (tab n g) d k (omega arith) h len q)
+    by k (inr b) (inl q) =
+        let e : a + (k - a) ≡ k = omega arith in
+        let i : k - a < n = omega arith in
+        subst (λ (x : ℕ). at d' x ≡ at (withPart a (a + n) (tab n g) d) x) e
+        (w .done (k - a) (omega arith) i ∙ sym (get-with a (a + n) (tab n g) d (k - a) nan (omega arith) (omega (arith, length-tab n g)) ∙ getD-tab n g (k - a) nan i))
