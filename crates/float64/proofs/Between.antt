@@ -5,10 +5,10 @@ use Prim.Native.Nat.{ℕ, zero, suc, _+_, _-_, _*_, _/_, _%_, _^_, _≤_, _<_}
 use native.Mathlib.Nat.{le-of-eq, lt-of-lt-of-le, lt-of-le-of-lt, mul-comm, mul-assoc, mul-mul-mul-comm, add-mul, mul-le-mul, mul-lt-mul-of-pos-right, mul-pos, eq-or-lt-of-le}
 use native.Mathlib.Omega.{arith}
 use lib.Arith.{lt-of-le-ne}
-use lib.Pow.{pow-add, pow-pos}
+use lib.Pow.{pow-pos}
 use Rattle.float64.specs.Parts.{Whole}
 use Rattle.float64.specs.Rule.{unitsOf, Nearest}
-use Rattle.float64.proofs.Digits.{q-low, q-high, scaled, no-root}
+use Rattle.float64.proofs.Digits.{q-low, half-low, half-high, twice, scaled, no-root}
 use Rattle.float64.proofs.Order.{units-normal}
 use Rattle.float64.proofs.Square.{sq-twice, sq-next}
 
@@ -51,16 +51,13 @@ module _ (n s h q : ℕ) (e : n * 2 ^ 52 ≡ s * 2 ^ h * 2 ^ h) (S : 2 ^ 52 ≤ 
   C = pow-pos (h + 484)
 
   m-low : 2 ^ 52 ≤ m
-  m-low = omega (arith, q-low s q S W)
+  m-low = half-low s q S W
 
   m-high : m < 2 ^ 53
-  m-high = omega (arith, q-high s q S' W)
-
-  twice : 2 ^ (485 + h) ≡ 2 * c
-  twice = pow-add 2 485 h ∙ mul-assoc 2 (2 ^ 484) (2 ^ h) ∙ ap (λ (x : ℕ). 2 * x) (mul-comm (2 ^ 484) (2 ^ h) ∙ sym (pow-add 2 h 484))
+  m-high = half-high s q S' W
 
   mid : (k : ℕ) → 2 ^ 52 ≤ k → k ≤ 2 ^ 53 → (x : ℕ) → x ≡ (485 + h) * 2 ^ 52 + k → unitsOf x ≡ 2 * k * c
-  mid k l g x z = units-normal (485 + h) k x l g z ∙ ap (λ (y : ℕ). k * y) twice ∙ sym (mul-assoc k 2 c) ∙ ap (λ (y : ℕ). y * c) (mul-comm k 2)
+  mid k l g x z = units-normal (485 + h) k x l g z ∙ ap (λ (y : ℕ). k * y) (twice h) ∙ sym (mul-assoc k 2 c) ∙ ap (λ (y : ℕ). y * c) (mul-comm k 2)
 
   at-b : unitsOf b ≡ 2 * m * c
   at-b = mid m m-low (omega (arith, m-high)) b refl

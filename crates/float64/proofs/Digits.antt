@@ -2,7 +2,7 @@
 use mathlib.Core.Path.{_≡_, refl, sym, ap, _∙_}
 use mathlib.Core.Bool.{Bool, true, false, cond}
 use Prim.Native.Nat.{ℕ, zero, suc, _+_, _-_, _*_, _/_, _%_, _^_, _≤_, _<_}
-use native.Mathlib.Nat.{le-of-eq, le-of-suc-le-suc, lt-of-lt-of-le, lt-of-le-of-lt, lt-of-not-le, mul-assoc, mul-left-comm, mul-mul-mul-comm, mul-le-mul, lt-of-mul-lt-mul-right, mul-pos, eq-of-mul-eq-mul-right}
+use native.Mathlib.Nat.{le-of-eq, le-of-suc-le-suc, lt-of-lt-of-le, lt-of-le-of-lt, lt-of-not-le, mul-comm, mul-assoc, mul-left-comm, mul-mul-mul-comm, mul-le-mul, lt-of-mul-lt-mul-right, mul-pos, eq-of-mul-eq-mul-right}
 use native.Mathlib.Omega.{arith}
 use lib.Dec.{T, lit≤}
 use lib.Arith.{lt-of-le-ne}
@@ -22,6 +22,16 @@ q-high s q h w = le-of-suc-le-suc (lt-of-not-le (λ (g : suc (2 ^ 54) ≤ q + 2)
     let k : (2 ^ 54 - 1) * (2 ^ 54 - 1) ≤ q * q = mul-le-mul j j in
     let l : q * q ≤ s * 2 ^ 54 = w .lo in
     omega arith))
+
+-- so half of it, rounded up, has 53
+pub half-low : (s q : ℕ) → 2 ^ 52 ≤ s → Whole (s * 2 ^ 54) q → 2 ^ 52 ≤ (q + 1) / 2
+half-low s q l w = omega (arith, q-low s q l w)
+
+pub half-high : (s q : ℕ) → s + 2 ≤ 2 ^ 54 → Whole (s * 2 ^ 54) q → (q + 1) / 2 < 2 ^ 53
+half-high s q h w = omega (arith, q-high s q h w)
+
+pub twice : (h : ℕ) → 2 ^ (485 + h) ≡ 2 * 2 ^ (h + 484)
+twice h = pow-add 2 485 h ∙ mul-assoc 2 (2 ^ 484) (2 ^ h) ∙ ap (λ (x : ℕ). 2 * x) (mul-comm (2 ^ 484) (2 ^ h) ∙ sym (pow-add 2 h 484))
 
 -- ---- n in units, and what its root is the root of
 regroup : (s h a p : ℕ) → s * h * h * (a * (p * p)) ≡ s * a * (h * p * (h * p))

@@ -17,7 +17,6 @@ use Rattle.float64.proofs.Between.{nearest-at}
 use Rattle.float64.proofs.Fields.{halved, wide, units-low, units-high, moved}
 use Rattle.float64.proofs.Pattern.{root-at, root-small}
 use Rattle.float64.proofs.Square.{isqrt-whole}
-use Rattle.float64.proofs.Tested.{small}
 use Rattle.float64.proofs.Tests.{below-inf}
 
 -- ---- 53 digits and a scale for the units of every pattern

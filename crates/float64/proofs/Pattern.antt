@@ -2,7 +2,7 @@
 use mathlib.Core.Path.{_≡_, refl, sym, ap, _∙_, subst}
 use mathlib.Core.Bool.{false, cond}
 use Prim.Native.Nat.{ℕ, suc, _+_, _*_, _/_, _^_, _≤_, _<_}
-use native.Mathlib.Nat.{le-trans, le-of-eq, lt-of-lt-of-le, mul-comm, mul-assoc, mul-left-comm, add-mul, mul-le-mul-right}
+use native.Mathlib.Nat.{le-trans, le-of-eq, lt-of-lt-of-le, mul-assoc, mul-left-comm, add-mul, mul-le-mul-right}
 use native.Mathlib.Omega.{arith}
 use lib.Dec.{T, eqb, eqb→eq}
 use lib.Pow.{pow-add, pow-pos, pow-mono, shl-lt}
@@ -11,7 +11,7 @@ use lib.Ieee.Exact.{HasValue, units-val}
 use lib.Ieee.Fits.{round-fits}
 use Rattle.float64.specs.Parts.{Whole}
 use Rattle.float64.specs.Root.{isqrt, nearestRoot}
-use Rattle.float64.proofs.Digits.{q-low, q-high, scaled, in-reach, above, one-at-most, sides}
+use Rattle.float64.proofs.Digits.{q-low, q-high, half-low, half-high, twice, scaled, in-reach, above, one-at-most, sides}
 use Rattle.float64.proofs.Rounding.{size-at, round-at, read-back}
 use Rattle.float64.proofs.Square.{isqrt-whole, whole-scale-lo, whole-scale-hi}
 
@@ -25,9 +25,15 @@ module _ (n s h q : ℕ) (e : n * 2 ^ 52 ≡ s * 2 ^ h * 2 ^ h) (S : 2 ^ 52 ≤ 
   abbrev c : ℕ
   c = 2 ^ (h + 484)
 
+  -- the root's digits
+  abbrev m : ℕ
+  m = (q + 1) / 2
+
+  -- the fraction that is rounded, over 2 ^ 1075
   abbrev num : ℕ
   num = 2 * w + cond (eqb (w * w) a) 0 1
 
+  -- the whole part w of the root lies between q * c and (q + 1) * c
   w-whole : Whole (s * 2 ^ 54 * (c * c)) w
   w-whole = subst (λ (x : ℕ). Whole x w) (scaled n s h e) (isqrt-whole 1587 a (in-reach n s h e (omega arith) H))
 
@@ -37,20 +43,16 @@ module _ (n s h q : ℕ) (e : n * 2 ^ 52 ≡ s * 2 ^ h * 2 ^ h) (S : 2 ^ 52 ≤ 
   hi : w < (q + 1) * c
   hi = whole-scale-hi (s * 2 ^ 54) c q w (pow-pos (h + 484)) W w-whole
 
-  -- 2 ^ (485 + h) is 2 * c
-  twice : 2 ^ (485 + h) ≡ 2 * c
-  twice = pow-add 2 485 h ∙ mul-assoc 2 (2 ^ 484) (2 ^ h) ∙ ap (λ (x : ℕ). 2 * x) (mul-comm (2 ^ 484) (2 ^ h) ∙ sym (pow-add 2 h 484))
-
-  both : (num < 2 * ((q + 1) / 2 * 2 ^ (485 + h)) + 2 ^ (485 + h)) × (2 * ((q + 1) / 2 * 2 ^ (485 + h)) < num + 2 ^ (485 + h))
+  -- num is nearer to m * 2 ^ (485 + h), doubled, than half a step
+  both : (num < 2 * (m * 2 ^ (485 + h)) + 2 ^ (485 + h)) × (2 * (m * 2 ^ (485 + h)) < num + 2 ^ (485 + h))
   both =
-      let m = (q + 1) / 2 in
-      let t : m * 2 ^ (485 + h) ≡ 2 * (m * c) = ap (λ (x : ℕ). m * x) twice ∙ mul-left-comm m 2 c in
+      let t : m * 2 ^ (485 + h) ≡ 2 * (m * c) = ap (λ (x : ℕ). m * x) (twice h) ∙ mul-left-comm m 2 c in
       let z = sides q m c w (cond (eqb (w * w) a) 0 1) (m * c) (q * c) ((q + 1) * c) refl (pow-pos (h + 484)) (one-at-most (eqb (w * w) a)) lo hi
       (λ o. above s c q w (eqb (w * w) a) (λ u. eqb→eq (w * w) a u ∙ scaled n s h e) (pow-pos (h + 484)) o lo)
       (omega (arith, add-mul q 1 c))
       (λ v. sym (mul-assoc 2 m c) ∙ ap (λ (x : ℕ). x * c) v)
       (λ v. sym (mul-assoc 2 m c) ∙ ap (λ (x : ℕ). x * c) v) in
-      let p : 2 ^ (485 + h) ≡ 2 * c = twice in
+      let p : 2 ^ (485 + h) ≡ 2 * c = twice h in
       (omega arith, omega arith)
 
   halved : num / 2 ≡ w
@@ -73,25 +75,19 @@ module _ (n s h q : ℕ) (e : n * 2 ^ 52 ≡ s * 2 ^ h * 2 ^ h) (S : 2 ^ 52 ≤ 
       ex2 : suc (53 + (h + 484)) ≡ 53 + (485 + h)
       ex2 = omega arith
 
-  rounded : nearestRoot n ≡ units binary64 false ((q + 1) / 2) (485 + h)
+  rounded : nearestRoot n ≡ units binary64 false (m) (485 + h)
   unfolding nearestRoot
-  rounded = round-at num ((q + 1) / 2) (485 + h) digits (both .0) (both .1)
-
-  m-low : 2 ^ 52 ≤ (q + 1) / 2
-  m-low = omega (arith, q-low s q S W)
-
-  m-high : (q + 1) / 2 < 2 ^ 53
-  m-high = omega (arith, q-high s q S' W)
+  rounded = round-at num (m) (485 + h) digits (both .0) (both .1)
 
   fit : T (fits binary64 (nearestRoot n))
   unfolding nearestRoot
   fit = round-fits binary64 false num (2 ^ 1075)
 
-  pub root-at : ofBits binary64 ((485 + h) * 2 ^ 52 + (q + 1) / 2) ≡ nearestRoot n
-  root-at = read-back (nearestRoot n) ((q + 1) / 2) (485 + h) fit
-      (subst (λ (v : Float). HasValue v false ((q + 1) / 2 * 2 ^ (485 + h)) (2 ^ 1074)) (sym rounded)
-      (units-val binary64 false ((q + 1) / 2) (485 + h) (lt-of-lt-of-le (shl-lt 53 (485 + h) m-high) (pow-mono {j = 2098} (omega arith)))))
-      m-low m-high
+  pub root-at : ofBits binary64 ((485 + h) * 2 ^ 52 + m) ≡ nearestRoot n
+  root-at = read-back (nearestRoot n) (m) (485 + h) fit
+      (subst (λ (v : Float). HasValue v false (m * 2 ^ (485 + h)) (2 ^ 1074)) (sym rounded)
+      (units-val binary64 false (m) (485 + h) (lt-of-lt-of-le (shl-lt 53 (485 + h) (half-high s q S' W)) (pow-mono {j = 2098} (omega arith)))))
+      (half-low s q S W) (half-high s q S' W)
 
-  pub root-small : (485 + h) * 2 ^ 52 + (q + 1) / 2 < 2047 * 2 ^ 52
-  root-small = omega (arith, m-high)
+  pub root-small : (485 + h) * 2 ^ 52 + m < 2047 * 2 ^ 52
+  root-small = omega (arith, half-high s q S' W)

@@ -1,8 +1,8 @@
--- The whole part of a root: `isqrt` has it, there is one only, and it scales. Assumes nothing.
+-- The whole part of a root: `isqrt` has it, and it scales. Assumes nothing.
 use mathlib.Core.Path.{_≡_, sym}
 use mathlib.Core.Bool.{Bool, true, false, not, cond}
 use Prim.Native.Nat.{ℕ, zero, suc, _+_, _*_, _/_, _^_, _≤_, _<_}
-use native.Mathlib.Nat.{le-trans, le-of-eq, le-of-suc-le-suc, lt-of-not-le, not-le-of-lt, mul-mul-mul-comm, add-mul, mul-le-mul, mul-le-mul-right, mul-lt-mul-of-pos-right, mul-pos, pow-suc, le-antisymm, mul-add}
+use native.Mathlib.Nat.{le-trans, le-of-eq, le-of-suc-le-suc, lt-of-not-le, not-le-of-lt, mul-mul-mul-comm, add-mul, mul-le-mul, mul-le-mul-right, mul-lt-mul-of-pos-right, mul-pos, pow-suc, mul-add}
 use native.Mathlib.Omega.{arith}
 use lib.Dec.{T, leb, leb→le, nleb→lt}
 use Rattle.float64.specs.Parts.{Whole}
@@ -38,9 +38,6 @@ no-less n r s h l g =
 
 pub below : (n r s : ℕ) → n < (r + 1) * (r + 1) → s * s ≤ n → s ≤ r
 below n r s h l = le-of-suc-le-suc (lt-of-not-le (λ (g : suc r ≤ s). no-less n r s h l g))
-
-pub whole-unique : (n r s : ℕ) → Whole n r → Whole n s → r ≡ s
-whole-unique n r s v w = le-antisymm (below n s r (w .hi) (v .lo)) (below n r s (v .hi) (w .lo))
 
 -- the whole part q of a's root times c is the whole part of the root of a * c ^ 2, but for what is below c
 pub whole-scale-lo : (a c q r : ℕ) → Whole a q → Whole (a * (c * c)) r → q * c ≤ r

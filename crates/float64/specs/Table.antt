@@ -1,12 +1,12 @@
 -- The rows R1 to R5 of document 01, and rows of the absolute value and the greater of two, as patterns. Each closes by computing.
 use mathlib.Core.Path.{_≡_, refl}
 use Prim.Native.Nat.{ℕ}
-use lib.Ieee.{Float, binary64, size, round, units, odd, lt, isNan, ofFields, ofBits, toBits}
+use lib.Ieee.{binary64, round, lt, isNan, ofBits, toBits}
 use Rattle.float64.specs.Root.{isqrt, count, nearestRoot, rootOf, absOf, greaterOf}
 
 -- all that a row computes with: `unfolding opened` opens it, in the tables of other crates too
 unfoldable pub opened : Unit {0}
-unfolding size round units odd lt isNan ofFields ofBits toBits isqrt count nearestRoot rootOf absOf greaterOf
+unfolding round lt isNan ofBits toBits isqrt count nearestRoot rootOf absOf greaterOf
 opened = tt
 
 abbrev root : ℕ → ℕ

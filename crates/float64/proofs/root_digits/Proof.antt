@@ -1,5 +1,5 @@
 -- `float64::root_digits` meets its contract. The loop's invariant is `Turn`. Assumes nothing.
-use Prim.Native.Nat.{ℕ, _-_, _<_, _^_}
+use Prim.Native.Nat.{_-_, _<_, _^_}
 use native.Mathlib.Omega.{arith}
 use Rattle.float64.proofs.Turns.{Turn, q-fits, one, nil, done, start}
 use Rattle.float64.proofs.root_digits.Statement.{statement}

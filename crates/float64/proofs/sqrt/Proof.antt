@@ -1,8 +1,7 @@
 -- `float64::sqrt` meets its contract. Each way out is a fact of `proofs/Ways.antt`. Assumes nothing.
-use mathlib.Core.Path.{_≡_, sym, _∙_, subst}
-use mathlib.Core.Bool.{false, not}
+use mathlib.Core.Path.{sym, _∙_, subst}
 use lib.Dec.{T}
-use lib.Ieee.{Float, binary64, fits, isNan, eq, lt, ofBits, toBits}
+use lib.Ieee.{Float, binary64, fits}
 use Rattle.float64.proofs.Tests.{is-nan, no-nan, below-inf}
 use Rattle.float64.proofs.Values.{in-range, value}
 use Rattle.float64.proofs.Ways.{root-nan, root-zero, root-neg, root-inf, root-of-units}

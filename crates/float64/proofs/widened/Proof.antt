@@ -1,6 +1,6 @@
 -- `float64::widened` meets its contract. The measure is the exponent left. Assumes nothing.
 use native.Mathlib.Omega.{arith}
-use Prim.Native.Nat.{ℕ, _<_}
+use Prim.Native.Nat.{_<_}
 use mathlib.Core.Path.{refl}
 use Rattle.float64.proofs.Turns.{Shift, shift-some, shift-more}
 use Rattle.float64.proofs.widened.Statement.{statement}
