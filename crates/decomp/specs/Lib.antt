@@ -1,0 +1,4 @@
+-- Householder QR and Q-transpose. Assumes nothing.
+pub mod Qr
+pub mod Calls
+pub mod Unique

@@ -1,0 +1,3 @@
+-- What the calls answer. Assumes nothing.
+pub mod Answers
+pub mod Unique
