@@ -1,0 +1,2 @@
+-- What the code's bit operations do to the terms of a word.
+pub mod Masks
