@@ -1,0 +1,5 @@
+-- The sums of the normal equations. Assumes nothing.
+pub mod Products
+pub mod ProductLaws
+pub mod Calls
+pub mod Unique

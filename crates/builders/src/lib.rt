@@ -1,0 +1,1 @@
+// The sums of the normal equations.

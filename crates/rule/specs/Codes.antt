@@ -1,0 +1,21 @@
+-- The stops by their codes, and a fit's answer by its number and values. Assumes nothing.
+use Prim.Native.Nat.{ℕ}
+use Rattle.refusal.specs.Answers.{number}
+use Rattle.rule.specs.declared.Stop.{Stop}
+use Rattle.rule.specs.declared.Stop.the-variants.{NoData, FirstRefused, Empty, RefitRefused, Settled, OutOfRounds}
+use Rattle.rule.specs.declared.Fitted.{Fitted}
+use Rattle.rule.specs.declared.Fitted.the-variants.{Fit, Refused}
+
+-- stops in code order 00 to 05
+abbrev pub stop-code : Stop → ℕ
+stop-code NoData = 0
+stop-code FirstRefused = 1
+stop-code Empty = 2
+stop-code RefitRefused = 3
+stop-code Settled = 4
+stop-code OutOfRounds = 5
+
+-- a fit's answer by number: 0 for a report, else the refusal's
+abbrev pub fitted-number : Fitted → ℕ
+fitted-number (Fit r) = 0
+fitted-number (Refused w) = number w

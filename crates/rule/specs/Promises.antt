@@ -1,0 +1,73 @@
+-- What is promised of both fits: each theorem holds for either solver, and was proved once over the problem. Assumes nothing.
+use mathlib.Core.Path.{_≡_, refl, sym, ap, _∙_, subst}
+use mathlib.Core.Logic.{_≢_}
+use mathlib.Core.Bool.{Bool, true, false, _||_, _&&_}
+use mathlib.Core.List.{List}
+use Prim.Native.Nat.{ℕ, _*_, _≤_, _<_}
+use native.Mathlib.Omega.{arith}
+use lib.Dec.{T, eqb, ltb, ltb→lt, eqb→eq}
+use lib.Ieee.{Float, nan, inf, fin, ofBits, lt, le, eq, up, down}
+use Rattle.steps.specs.Num.{+zero, at, Entry}
+use Rattle.float64.specs.Root.{absOf}
+use Rattle.support.specs.Word.{has}
+use Rattle.rule.specs.declared.Setup.{Setup}
+use Rattle.rule.specs.declared.Solver.{Solver}
+use Rattle.rule.specs.declared.Stop.the-variants.{OutOfRounds}
+use Rattle.rule.specs.Rule.{Problem, zeros}
+use Rattle.rule.specs.Fits.{keeps, solves, problem, fit-by}
+use Rattle.rule.specs.Stable.{Steady, steady, Bounded, bounded, ZeroKept}
+use Rattle.rule.specs.Endings.{Zeroed, ends-with-zeros, no-nan, kept-rule}
+
+-- above zero, nothing is kept at +0.0
+no-gap : (x y : ℕ) → T (ltb y x) → T (ltb x y || (eqb x y && true)) → ⊥
+no-gap x y h t = go (ltb x y) (eqb x y) refl refl t
+  where
+    go : (a b : Bool) → ltb x y ≡ a → eqb x y ≡ b → T (a || (b && true)) → ⊥
+    go true b p q t = let l = ltb→lt x y (subst (λ (u : Bool). T u) (sym p) tt) in omega (arith, ltb→lt y x h)
+    go false true p q t = let e = eqb→eq x y (subst (λ (u : Bool). T u) (sym q) tt) in omega (arith, ltb→lt y x h)
+    go false false p q t = t
+
+above-zero : (threshold : Float) → T (lt +zero threshold) → (j : ℕ) → T (keeps threshold j +zero) → ⊥
+unfolding lt le eq keeps absOf ofBits
+above-zero nan h j t = h
+above-zero (inf true) h j t = h
+above-zero (inf false) h j t = t
+above-zero (fin true m e) h j t = h
+above-zero (fin false m e) h j t = no-gap (m * up e * 1) (0 * 1 * down e) h t
+
+-- a NaN is never kept
+nan-out : (threshold : Float) (j : ℕ) → keeps threshold j nan ≡ false
+unfolding keeps absOf le lt eq
+nan-out nan j = refl
+nan-out (inf s) j = refl
+nan-out (fin s m e) j = refl
+
+module _ (solver : Solver) (e : Entry) (t : ℕ → Float) (rows n : ℕ) (threshold lambda : Float) where
+  -- the problem that the fit is the rule of
+  abbrev pub of : Problem
+  of = problem rows n threshold (solves solver lambda t rows) e
+
+  -- demand 3, at any threshold
+  pub stable : Steady of
+  stable = steady of
+
+  -- demand 3, for a threshold above zero
+  pub bounds : T (lt +zero threshold) → Bounded of
+  unfolding problem ZeroKept
+  bounds h = bounded of (λ j c k. absurd (above-zero threshold h j k))
+
+module _ (solver : Solver) (e : Entry) (t : ℕ → Float) (rows n : ℕ) (setup : Setup) where
+  -- a refused solve ends with zeros, and so do no data and an empty support
+  pub zeros-left : Zeroed (fit-by solver e t rows n setup .stop) → fit-by solver e t rows n setup .coeffs ≡ zeros n
+  unfolding fit-by problem
+  zeros-left z = ends-with-zeros (of solver e t rows n (setup .threshold) (setup .lambda)) (setup .«max_iter») z
+
+  -- only OutOfRounds can leave a NaN among the coefficients
+  pub numbers-left : fit-by solver e t rows n setup .stop ≢ OutOfRounds → (j : ℕ) → j < n → at (fit-by solver e t rows n setup .coeffs) j ≢ nan
+  unfolding fit-by problem
+  numbers-left k j l = no-nan (of solver e t rows n (setup .threshold) (setup .lambda)) (nan-out (setup .threshold)) (setup .«max_iter») k j l
+
+  -- bit j is one exactly if j is below n_cols and the final |c(j)| is at least the threshold
+  pub kept-word : (j : ℕ) → has (fit-by solver e t rows n setup .kept) j ≡ (ltb j n && le (setup .threshold) (absOf (at (fit-by solver e t rows n setup .coeffs) j)))
+  unfolding fit-by problem keeps
+  kept-word j = kept-rule (of solver e t rows n (setup .threshold) (setup .lambda)) (setup .«max_iter») j
