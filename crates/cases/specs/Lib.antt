@@ -1,1 +1,2 @@
 pub mod Solvers
+pub mod Fits

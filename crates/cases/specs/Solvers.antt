@@ -19,7 +19,7 @@ use Rattle.solve.specs.Normal as E
 use Rattle.solve.specs.Least as M
 
 -- all that a case computes with: `unfolding opened` opens it
-opened : Unit {0}
+unfoldable pub opened : Unit {0}
 unfolding ofBits add sub neg mul div lt le eq round size sum isNan
     L.turns L.loop L.down-from L.way L.way-down S.sum S.less-sum T.tab T.table P.swapped
     R.isqrt R.count R.nearestRoot R.rootOf R.absOf R.greaterOf
@@ -29,10 +29,10 @@ unfolding ofBits add sub neg mul div lt le eq round size sum isNan
     E.or-lu E.normal M.above M.back-column M.back M.values M.least
 opened = tt
 
-abbrev three : Float
+abbrev pub three : Float
 three = lit 0x4008000000000000
 
-abbrev four : Float
+abbrev pub four : Float
 four = lit 0x4010000000000000
 
 abbrev five : Float
