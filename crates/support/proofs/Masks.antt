@@ -1,6 +1,6 @@
 -- What the code's bit operations make of a word: `|` and `^` with a term's bit, the bit itself, the mask below it. Assumes nothing.
 use mathlib.Core.Path.{_≡_, refl, sym, ap, ap₂, _∙_}
-use mathlib.Core.Bool.{Bool, true, false, not, _&&_, _||_}
+use mathlib.Core.Bool.{Bool, true, false, not, xor, _&&_, _||_}
 use Prim.Native.Nat.{ℕ, _+_, _-_, _*_, _/_, _%_, _^_, _≤_, _<_, max}
 use native.Mathlib.Nat.{mod-lt, one-mul, zero-max}
 use native.Mathlib.Omega.{arith}
@@ -11,7 +11,7 @@ use lib.Bits.{bitOr, bitXor, bitAnd, differ, or-step, xor-step, or-shr, xor-shr,
 use lib.Count.{ones}
 use Rattle.support.specs.Word.{has, bit, place, alone, with-term, without-term}
 use Rattle.support.specs.WordLaws.{digit-is, word-lt, word-ext}
-use Rattle.support.specs.SupportLaws.{has-alone, alone-is, has-with, has-without}
+use Rattle.support.specs.SupportLaws.{has-alone, has-with, has-without}
 
 -- ---- the terms of an `|` and of an `^`
 
@@ -21,19 +21,15 @@ module _ (op low : ℕ → ℕ → ℕ) (test : Bool → Bool → Bool) (bits : 
   -- the lowest digit of the result is the test of the two lowest digits
   low-digit : (a b : ℕ) → eqb (op a b % 2) 1 ≡ test (eqb (a % 2) 1) (eqb (b % 2) 1)
   low-digit a b =
-      let t : Bool = test (eqb (a % 2) 1) (eqb (b % 2) 1) in
-      let digits : op a b ≡ op (a / 2) (b / 2) * 2 + bit t =
-      step a b ∙ ap (λ (x : ℕ). op (a / 2) (b / 2) * 2 + x) (ap₂ low (sym (digit-is (a % 2) (mod-lt a (lit< tt)))) (sym (digit-is (b % 2) (mod-lt b (lit< tt)))) ∙ bits _ _)
-      in
-      ap (λ (x : ℕ). eqb (x % 2) 1) digits ∙ ap (λ (x : ℕ). eqb x 1) (digits-mod (op (a / 2) (b / 2)) (small t)) ∙ back t
+      ap (λ (x : ℕ). eqb (x % 2) 1) (step a b ∙ ap (λ (x : ℕ). op (a / 2) (b / 2) * 2 + x) (ap₂ low (own a) (own b) ∙ bits _ _))
+      ∙ last (op (a / 2) (b / 2)) (test (eqb (a % 2) 1) (eqb (b % 2) 1))
     where
-      small : (b : Bool) → bit b < 2
-      small true = lit< tt
-      small false = lit< tt
+      own : (x : ℕ) → x % 2 ≡ bit (eqb (x % 2) 1)
+      own x = sym (digit-is (x % 2) (mod-lt x (lit< tt)))
 
-      back : (b : Bool) → eqb (bit b) 1 ≡ b
-      back true = refl
-      back false = refl
+      last : (x : ℕ) (b : Bool) → eqb ((x * 2 + bit b) % 2) 1 ≡ b
+      last x true = ap (λ (y : ℕ). eqb y 1) (digits-mod x (lit< tt))
+      last x false = ap (λ (y : ℕ). eqb y 1) (digits-mod x (lit< tt))
 
   has-op : (a b k : ℕ) → has (op a b) k ≡ test (has a k) (has b k)
   unfolding has
@@ -47,15 +43,11 @@ has-or = has-op bitOr max _||_ bits or-step or-shr
     bits true false = refl
     bits false y = zero-max (bit y)
 
--- whether just one of the two tests passes
-either : Bool → Bool → Bool
-either x y = (x || y) && not (x && y)
-
-has-xor : (a b k : ℕ) → has (bitXor a b) k ≡ either (has a k) (has b k)
-unfolding either
-has-xor = has-op bitXor differ either bits xor-step xor-shr
+has-xor : (a b k : ℕ) → has (bitXor a b) k ≡ xor (has a k) (has b k)
+unfolding xor
+has-xor = has-op bitXor differ xor bits xor-step xor-shr
   where
-    bits : (x y : Bool) → differ (bit x) (bit y) ≡ bit (either x y)
+    bits : (x y : Bool) → differ (bit x) (bit y) ≡ bit (xor x y)
     bits true true = refl
     bits true false = refl
     bits false true = refl
@@ -73,13 +65,15 @@ with-is w j s = word-ext _ _ 64 (or-lt 64 w (alone j) s (alone-lt j)) (word-lt _
     has-or w (alone j) k ∙ ap (λ (b : Bool). has w k || b) (has-alone j k h) ∙ sym (has-with w j k h))
 
 pub without-is : (w j : ℕ) → w < 2 ^ 64 → bitXor (bitOr w (alone j)) (alone j) ≡ without-term w j
-unfolding without-term either
-without-is w j s = word-ext _ _ 64 (xor-lt 64 (bitOr w (alone j)) (alone j) (or-lt 64 w (alone j) s (alone-lt j)) (alone-lt j)) (word-lt _ 64) (λ k h.
-    has-xor (bitOr w (alone j)) (alone j) k
-    ∙ ap₂ either (has-or w (alone j) k ∙ ap (λ (b : Bool). has w k || b) (has-alone j k h)) (has-alone j k h)
-    ∙ cleared (has w k) (eqb k j) ∙ sym (has-without w j k h))
+unfolding without-term xor
+without-is w j s =
+    let m = alone j in
+    let fits : bitOr w m < 2 ^ 64 = or-lt 64 w m s (alone-lt j) in
+    word-ext _ _ 64 (xor-lt 64 (bitOr w m) m fits (alone-lt j)) (word-lt _ 64) (λ k h.
+    has-xor (bitOr w m) m k ∙ ap (λ (b : Bool). xor b (has m k)) (has-or w m k)
+    ∙ ap (λ (b : Bool). xor (has w k || b) b) (has-alone j k h) ∙ cleared (has w k) (eqb k j) ∙ sym (has-without w j k h))
   where
-    cleared : (x y : Bool) → either (x || y) y ≡ (x && not y)
+    cleared : (x y : Bool) → xor (x || y) y ≡ (x && not y)
     cleared true true = refl
     cleared true false = refl
     cleared false true = refl

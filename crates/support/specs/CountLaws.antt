@@ -1,8 +1,8 @@
--- Laws of counting: the count of ones is the count of a word's terms, places rise, a subset counts fewer. Assumes nothing.
-use mathlib.Core.Path.{_≡_, refl, sym, ap, ap₂, _∙_, subst}
-use mathlib.Core.Logic.{_≢_, _⊎_, inl, inr}
+-- Laws of counting: the count of ones is the count of a word's terms, counts and places rise. Assumes nothing.
+use mathlib.Core.Path.{_≡_, refl, sym, ap, ap₂, _∙_}
+use mathlib.Core.Logic.{_≢_}
 use mathlib.Core.Bool.{Bool, true, false}
-use Prim.Native.Nat.{ℕ, zero, suc, _+_, _*_, _%_, _^_, _≤_, _<_}
+use Prim.Native.Nat.{ℕ, zero, suc, _+_, _*_, _^_, _≤_, _<_}
 use native.Mathlib.Nat.{add-comm, le-refl, lt-of-lt-of-le, mod-eq-of-lt}
 use native.Mathlib.Numerals.{add-one}
 use native.Mathlib.Decide.{le-ind}
@@ -11,7 +11,7 @@ use lib.Dec.{T}
 use lib.Pow.{pow-mono}
 use lib.Count.{ones, ones-cat, ones-ones}
 use borrow.Author.Tests.{lt-ltb}
-use Rattle.support.specs.Word.{has, bit, count, word, place, full, Sub, Strict}
+use Rattle.support.specs.Word.{has, bit, count, word, place, full}
 use Rattle.support.specs.WordLaws.{passes, word-lt, has-lt, word-mod, word-has}
 use Rattle.support.specs.SupportLaws.{has-full, full-word, full-is}
 
@@ -106,30 +106,3 @@ pub count-full : (n j : ℕ) → n ≤ 64 → j ≤ n → count (has (full n)) j
 count-full n j l h =
     count-cong _ (λ k. true) j (λ k m. has-full n k (omega arith) ∙ lt-ltb k n (omega arith))
     ∙ sym (ones-word (λ k. true) j) ∙ ap ones (sym (full-word j (omega arith))) ∙ ones-full j (omega arith)
-
--- ---- subsets
-
--- of two tests, one within the other, the first counts fewer or the words are one
-within : (f g : ℕ → Bool) (n : ℕ) → ((j : ℕ) → j < n → T (f j) → T (g j)) → (count f n < count g n) ⊎ ((count f n ≡ count g n) × (word f n ≡ word g n))
-unfolding count word
-within f g zero h = inr (refl, refl)
-within f g (suc n) h = next (f n) (g n) (h n (omega arith)) (within f g n (λ j l. h j (omega arith)))
-  where
-    next : (a b : Bool) → (T a → T b) → (count f n < count g n) ⊎ ((count f n ≡ count g n) × (word f n ≡ word g n))
-        → (count f n + bit a < count g n + bit b) ⊎ ((count f n + bit a ≡ count g n + bit b) × (bit a * 2 ^ n + word f n ≡ bit b * 2 ^ n + word g n))
-    next true true k (inl l) = inl (omega arith)
-    next true true k (inr e) = inr (omega arith, ap (λ (w : ℕ). 1 * 2 ^ n + w) (e .1))
-    next true false k o = absurd (k tt)
-    next false true k (inl l) = inl (omega arith)
-    next false true k (inr e) = inl (omega arith)
-    next false false k (inl l) = inl (omega arith)
-    next false false k (inr e) = inr (omega arith, ap (λ (w : ℕ). 0 * 2 ^ n + w) (e .1))
-
--- a subset counts no more
-pub count-sub : (f g : ℕ → Bool) (n : ℕ) → ((j : ℕ) → j < n → T (f j) → T (g j)) → count f n ≤ count g n
-count-sub f g n h = elim (within f g n h) [ inl l ↦ omega arith | inr e ↦ omega (arith, e .0) ]
-
--- a strict subset counts fewer
-pub strict-count : (n w v : ℕ) → w < 2 ^ n → v < 2 ^ n → Strict w v → count (has w) n < count (has v) n
-strict-count n w v p q s =
-    elim (within (has w) (has v) n (λ j l. s .within j)) [ inl l ↦ l | inr e ↦ absurd (s .other (sym (word-has w n p) ∙ e .1 ∙ word-has v n q)) ]

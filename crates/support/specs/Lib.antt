@@ -3,5 +3,6 @@ pub mod Word
 pub mod WordLaws
 pub mod SupportLaws
 pub mod CountLaws
+pub mod SubsetLaws
 pub mod TermLaws
 pub mod Unique

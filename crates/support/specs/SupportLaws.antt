@@ -1,7 +1,7 @@
 -- Laws of the supports that `support` makes: a term put in and taken out, every term below n, and a word made term by term. Assumes nothing.
 use mathlib.Core.Path.{_≡_, refl, sym, ap, ap₂, _∙_}
-use mathlib.Core.Bool.{Bool, true, false, not, _&&_, _||_, and-true, or-false}
-use Prim.Native.Nat.{ℕ, zero, suc, _+_, _-_, _*_, _^_, _≤_, _<_}
+use mathlib.Core.Bool.{Bool, true, false, not, _&&_, _||_, and-true, or-true, or-false}
+use Prim.Native.Nat.{ℕ, zero, suc, _+_, _-_, _^_, _≤_, _<_}
 use native.Mathlib.Nat.{pow-suc}
 use native.Mathlib.Numerals.{add-one}
 use native.Mathlib.Decide.{decLt}
@@ -9,8 +9,8 @@ use native.Mathlib.Omega.{arith}
 use lib.Dec.{eqb, ltb}
 use lib.Pow.{pow-pos}
 use borrow.Author.Tests.{lt-ltb, le-ltb, eq-eqb, ne-eqb}
-use Rattle.support.specs.Word.{has, bit, word, alone, full, with-term, without-term}
-use Rattle.support.specs.WordLaws.{word-lt, word-fits, has-word, has-beyond, word-rest, word-cong, word-has, word-ext}
+use Rattle.support.specs.Word.{has, word, alone, full, with-term, without-term}
+use Rattle.support.specs.WordLaws.{word-none, word-lt, has-word, has-beyond, word-rest, word-cong, word-has}
 
 -- ---- a term put in, a term taken out
 
@@ -26,19 +26,22 @@ pub has-without : (w j k : ℕ) → k < 64 → has (without-term w j) k ≡ (has
 unfolding without-term
 has-without w j k h = has-word _ 64 k h
 
+no-terms : (n : ℕ) → word (λ k. false) n ≡ 0
+no-terms n = word-rest _ 0 n (omega arith) (λ k h. refl) ∙ word-none _
+
 -- a term of 64 or more is none of the 64
 other : (j k : ℕ) → 64 ≤ j → k < 64 → eqb k j ≡ false
 other j k l h = ne-eqb k j (λ e. omega arith)
 
 pub alone-beyond : (j : ℕ) → 64 ≤ j → alone j ≡ 0
-unfolding alone word
-alone-beyond j l = word-cong _ (λ k. false) 64 (λ k h. other j k l h) ∙ word-rest (λ k. false) 0 64 (omega arith) (λ k h. refl)
+unfolding alone
+alone-beyond j l = word-cong _ (λ k. false) 64 (λ k h. other j k l h) ∙ no-terms 64
 
 pub alone-is : (j : ℕ) → j < 64 → alone j ≡ 2 ^ j
 unfolding alone word
 alone-is j l =
-    word-rest _ (suc j) 64 l (λ k h. ne-eqb k j (λ e. omega arith))
-    ∙ rw (eq-eqb j j refl, word-cong (λ k. eqb k j) (λ k. false) j (λ k h. ne-eqb k j (λ e. omega arith)), word-rest (λ k. false) 0 j (omega arith) (λ k h. refl)) (omega arith)
+    let none : word (λ k. eqb k j) j ≡ 0 = word-cong _ (λ k. false) j (λ k h. ne-eqb k j (λ e. omega arith)) ∙ no-terms j in
+    word-rest _ (suc j) 64 l (λ k h. ne-eqb k j (λ e. omega arith)) ∙ rw (eq-eqb j j refl, none) (omega arith)
 
 pub with-beyond : (w j : ℕ) → w < 2 ^ 64 → 64 ≤ j → with-term w j ≡ w
 unfolding with-term
@@ -59,36 +62,39 @@ pub full-word : (n : ℕ) → n ≤ 64 → full n ≡ word (λ k. true) n
 unfolding full
 full-word n l = word-rest _ n 64 l (λ k h. le-ltb k n h) ∙ word-cong _ (λ k. true) n (λ k h. lt-ltb k n h)
 
-ones-word : (n : ℕ) → word (λ k. true) n ≡ 2 ^ n - 1
+all-ones : (n : ℕ) → word (λ k. true) n ≡ 2 ^ n - 1
 unfolding word
-ones-word zero = omega arith
-ones-word (suc n) = rw (pow-suc 2 n) (omega (arith, ones-word n, pow-pos n))
+all-ones zero = omega arith
+all-ones (suc n) = rw (pow-suc 2 n) (omega (arith, all-ones n, pow-pos n))
 
 -- as a number
 pub full-is : (n : ℕ) → n ≤ 64 → full n ≡ 2 ^ n - 1
-full-is n l = full-word n l ∙ ones-word n
+full-is n l = full-word n l ∙ all-ones n
+
+pub full-lt : (n : ℕ) → n ≤ 64 → full n < 2 ^ n
+full-lt n l = rw (full-word n l) (word-lt _ n)
 
 pub full-beyond : (n : ℕ) → 64 ≤ n → full n ≡ 2 ^ 64 - 1
 unfolding full
-full-beyond n l = word-cong _ (λ k. true) 64 (λ k h. lt-ltb k n (omega arith)) ∙ ones-word 64
+full-beyond n l = word-cong _ (λ k. true) 64 (λ k h. lt-ltb k n (omega arith)) ∙ all-ones 64
 
 -- ---- a word made term by term, as a loop over the terms collects it
 
 pub word-take : (f : ℕ → Bool) (j : ℕ) → j < 64 → f j ≡ true → with-term (word f j) j ≡ word f (j + 1)
 unfolding with-term
-word-take f j l e = word-ext _ _ 64 (word-lt _ 64) (word-fits f (j + 1) (omega arith)) (λ k h. has-with (word f j) j k h ∙ same k (decLt k j) (decLt j k))
+word-take f j l e = word-rest _ (j + 1) 64 (omega arith) after ∙ word-cong _ f (j + 1) before
   where
-    same : (k : ℕ) → Dec (k < j) → Dec (j < k) → (has (word f j) k || eqb k j) ≡ has (word f (j + 1)) k
-    same k (yes a) d =
-        ap₂ (λ (x y : Bool). x || y) (has-word f j k a) (ne-eqb k j (λ q. omega arith))
-        ∙ or-false (f k) ∙ sym (has-word f (j + 1) k (omega arith))
-    same k (no a) (yes b) =
-        ap₂ (λ (x y : Bool). x || y) (has-beyond _ j k (word-lt f j) (omega arith)) (ne-eqb k j (λ q. omega arith))
-        ∙ sym (has-beyond _ (j + 1) k (word-lt f (j + 1)) (omega arith))
-    same k (no a) (no b) =
-        let q : k ≡ j = omega (arith, a, b) in
-        ap₂ (λ (x y : Bool). x || y) (has-beyond _ j k (word-lt f j) (omega (arith, a))) (eq-eqb k j q)
-        ∙ sym (has-word f (j + 1) k (omega arith) ∙ ap f q ∙ e)
+    after : (k : ℕ) → j + 1 ≤ k → (has (word f j) k || eqb k j) ≡ false
+    after k h = ap₂ _||_ (has-beyond (word f j) j k (word-lt f j) (omega arith)) (ne-eqb k j (λ q. omega arith))
+
+    before : (k : ℕ) → k < j + 1 → (has (word f j) k || eqb k j) ≡ f k
+    before k h = pick (decLt k j)
+      where
+        pick : Dec (k < j) → (has (word f j) k || eqb k j) ≡ f k
+        pick (yes a) = ap₂ _||_ (has-word f j k a) (ne-eqb k j (λ q. omega arith)) ∙ or-false (f k)
+        pick (no a) =
+            let q : k ≡ j = omega (arith, a) in
+            ap (λ (b : Bool). has (word f j) k || b) (eq-eqb k j q) ∙ or-true (has (word f j) k) ∙ sym (ap f q ∙ e)
 
 pub word-skip : (f : ℕ → Bool) (j : ℕ) → f j ≡ false → word f j ≡ word f (j + 1)
 unfolding word

@@ -1,5 +1,5 @@
 -- Laws of term numbers and reduced places: each is the other's inverse on the terms of a support, and both rise. Assumes nothing.
-use mathlib.Core.Path.{_≡_, refl, sym, ap, ap₂, _∙_, subst}
+use mathlib.Core.Path.{_≡_, refl, sym, ap, ap₂, _∙_}
 use mathlib.Core.Logic.{_⊎_, inl, inr}
 use mathlib.Core.List.{List, [], _∷_, _++_}
 use mathlib.Core.Bool.{Bool, true, false, cond}
@@ -92,15 +92,16 @@ term-full n p l h =
 
 -- ---- the same, as the code has it: `place` and `term_at`, of a word of 64 bits
 
-pub record Seat (w c j : ℕ) : Type 0 where
+-- the term j is in w, and its reduced place is c
+pub record Member (w c j : ℕ) : Type 0 where
   pub below : j < 64
-  pub member : T (has w j)
-  pub seat : place w j ≡ c
+  pub held : T (has w j)
+  pub placed : place w j ≡ c
 
-pub term-at-is : (w c : ℕ) → w < 2 ^ 64 → c < ones w → Seat w c (term-at w c)
+pub term-at-is : (w c : ℕ) → w < 2 ^ 64 → c < ones w → Member w c (term-at w c)
 term-at-is w c s h =
     let i = term-is 64 w c (rw (← ones-is w 64 s) h) in
-    record { below = i .below; member = i .passes; seat = place-is w (term-at w c) ∙ i .place }
+    record { below = i .below; held = i .passes; placed = place-is w (term-at w c) ∙ i .place }
 
 pub term-at-place : (w j : ℕ) → w < 2 ^ 64 → T (has w j) → term-at w (place w j) ≡ j
 term-at-place w j s t = ap (term-at w) (place-is w j) ∙ term-of-place 64 w j (has-lt w 64 j s t) t
