@@ -80,9 +80,9 @@ full-beyond n l = word-cong _ (λ k. true) 64 (λ k h. lt-ltb k n (omega arith))
 
 -- ---- a word made term by term, as a loop over the terms collects it
 
-pub word-take : (f : ℕ → Bool) (j : ℕ) → j < 64 → f j ≡ true → with-term (word f j) j ≡ word f (j + 1)
+pub word-take : (f : ℕ → Bool) (j : ℕ) {w : ℕ} → j < 64 → f j ≡ true → w ≡ word f j → with-term w j ≡ word f (j + 1)
 unfolding with-term
-word-take f j l e = word-rest _ (j + 1) 64 (omega arith) after ∙ word-cong _ f (j + 1) before
+word-take f j l e s = ap (λ (x : ℕ). with-term x j) s ∙ word-rest _ (j + 1) 64 (omega arith) after ∙ word-cong _ f (j + 1) before
   where
     after : (k : ℕ) → j + 1 ≤ k → (has (word f j) k || eqb k j) ≡ false
     after k h = ap₂ _||_ (has-beyond (word f j) j k (word-lt f j) (omega arith)) (ne-eqb k j (λ q. omega arith))
@@ -96,6 +96,6 @@ word-take f j l e = word-rest _ (j + 1) 64 (omega arith) after ∙ word-cong _ f
             let q : k ≡ j = omega (arith, a) in
             ap (λ (b : Bool). has (word f j) k || b) (eq-eqb k j q) ∙ or-true (has (word f j) k) ∙ sym (ap f q ∙ e)
 
-pub word-skip : (f : ℕ → Bool) (j : ℕ) → f j ≡ false → word f j ≡ word f (j + 1)
+pub word-skip : (f : ℕ → Bool) (j : ℕ) {w : ℕ} → f j ≡ false → w ≡ word f j → w ≡ word f (j + 1)
 unfolding word
-word-skip f j e = rw (add-one j, e) (omega arith)
+word-skip f j e s = s ∙ rw (add-one j, e) (omega arith)
