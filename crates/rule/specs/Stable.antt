@@ -16,7 +16,8 @@ use Rattle.steps.specs.Table.{getD-tab}
 use Rattle.refusal.specs.Answers.{Solution, solved, refused}
 use Rattle.support.specs.Word.{has, count, word, place, Sub, Strict}
 use Rattle.support.specs.WordLaws.{word-lt, has-word, has-lt, word-has}
-use Rattle.support.specs.CountLaws.{count-le, count-pos, strict-count}
+use Rattle.support.specs.CountLaws.{count-le, count-pos}
+use Rattle.support.specs.SubsetLaws.{strict-count}
 use Rattle.rule.specs.declared.Stop.{Stop}
 use Rattle.rule.specs.declared.Stop.the-variants.{NoData, FirstRefused, Empty, RefitRefused, Settled, OutOfRounds}
 use Rattle.rule.specs.Rule.{Problem, State, going, done, latest, support, scatter, refit, look, round, first, start, rounds, reported, finish, fit, past, refitted}
