@@ -1,6 +1,6 @@
 // The square root of an f64, rounded once, its absolute value, and the greater of two. `sqrt` and `abs` work on bits.
 //
-// The root of a positive finite number, by its pattern: `root_pattern` parts it into 53 digits and a scale, `packed` makes the scale even and puts the root's
+// The root of a positive finite number, by its pattern: `parted` has it in 53 digits and a scale, `packed` makes the scale even and puts the root's
 // pattern together, `half_root` finds the root's 53 digits by a guess that passes an exact test (`guess`, `nearest`) or else digit by digit (`root_digits`).
 
 ghost use mathlib.Core.Path.{_≡_};
@@ -132,19 +132,26 @@ fn packed(sig: u64, exp: u64) -> u64
     (485 + h) * 0x10_0000_0000_0000 + m
 }
 
+// The positive finite number whose pattern is b, in units of 2 ^ -1074 and these times 2 ^ 52, written with 53 digits.
+fn parted(b: u64) -> Scaled
+    requires { ⌜ 0 < b ⌝ ∗ ⌜ b < 0x7ff0_0000_0000_0000 ⌝ }
+    ensures { λ r. ⌜ Widened (unitsOf b) (r .0) (r .1) ⌝ }
+{
+    let field = b / 0x10_0000_0000_0000;
+    let digits = b % 0x10_0000_0000_0000;
+    if field == 0 {
+        return widened(digits);
+    }
+    Scaled(0x10_0000_0000_0000 + digits, field + 51)
+}
+
 // The pattern of the root of the positive finite number whose pattern is b.
 fn root_pattern(b: u64) -> u64
     requires { ⌜ 0 < b ⌝ ∗ ⌜ b < 0x7ff0_0000_0000_0000 ⌝ }
     ensures { λ r. ⌜ Rooted (unitsOf b) r ⌝ }
 {
-    let field = b / 0x10_0000_0000_0000;
-    let digits = b % 0x10_0000_0000_0000;
-    if field == 0 {
-        let w = widened(digits);
-        packed(w.0, w.1)
-    } else {
-        packed(0x10_0000_0000_0000 + digits, field + 51)
-    }
+    let w = parted(b);
+    packed(w.0, w.1)
 }
 
 // The root: ±0 give themselves, +infinity itself, NaN and negatives below zero a NaN, and a positive finite number the f64 nearest its exact root.

@@ -12,7 +12,7 @@ abbrev μ-loop : tie.MeasureT-loop
 μ-loop s rest₀ q₀ rem₀ i₀ rest q rem i = 54 - i
 
 fit : (c : tie.In-loop Inv-loop μ-loop) → c .before .loop .q < 2 ^ 53
-fit c = q-fits _ _ _ _ _ (c .before .loop .inv) (c .loop-test .taken)
+fit c = q-fits _ _ _ _ _ (c .before .loop .inv) (omega arith)
 
 loop-holds : tie.Need-loop-holds Inv-loop μ-loop
 loop-holds c = start _ (c .pre)
@@ -45,7 +45,7 @@ loop-less : tie.Need-loop-less Inv-loop μ-loop
 loop-less c = omega arith
 
 loop-again : tie.Need-loop-again Inv-loop μ-loop
-loop-again c = one _ _ _ _ _ (c .before .before .loop .inv) (c .before .loop-test .taken) (c .if1 .taken)
+loop-again c = one _ _ _ _ _ (c .before .before .loop .inv) (omega arith) (c .if1 .taken)
 
 mul-q-2 : tie.Need-mul-q-2 Inv-loop μ-loop
 mul-q-2 c = omega (arith, fit (c .before))
@@ -54,7 +54,7 @@ loop-less-2 : tie.Need-loop-less-2 Inv-loop μ-loop
 loop-less-2 c = omega arith
 
 loop-again-2 : tie.Need-loop-again-2 Inv-loop μ-loop
-loop-again-2 c = nil _ _ _ _ _ (c .before .before .loop .inv) (c .before .loop-test .taken) (c .if1 .left)
+loop-again-2 c = nil _ _ _ _ _ (c .before .before .loop .inv) (omega arith) (c .if1 .left)
 
 returns : tie.Need-returns Inv-loop μ-loop
 returns c = done _ _ _ _ _ (c .before .loop .inv) (c .loop-test .left)

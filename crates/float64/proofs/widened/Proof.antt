@@ -33,7 +33,7 @@ loop-again c = shift-more _ _ _ (c .before .before .pre .0) (c .before .loop .in
 returns : tie.Need-returns Inv-loop μ-loop
 returns c =
     let t = c .before .loop .inv in
-    record { same = t .same; low = c .loop-test .left; high = t .high; most = t .most }
+    record { same = t .same; low = c .loop-test .left; high = t .high; most = omega (arith, t .most) }
 
 pub widened-spec : {M : Type 1} → statement M
 widened-spec = tie.close (tie.spec Inv-loop μ-loop loop-holds mul-s sub-e loop-less loop-again returns)
