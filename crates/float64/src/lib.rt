@@ -62,8 +62,8 @@ fn digits_of(z: f64) -> u64
     f64::to_bits(z) % 0x10_0000_0000_0000 + 0x10_0000_0000_0000
 }
 
-// A guess at the nearest whole number to the root of s * 2 ^ 52, where b is the pattern of s / 2 ^ 52. How near it is, is measured and not proved: `nearest`
-// tests it, and about 6 in a million fail.
+// A guess at the nearest whole number to the root of s * 2 ^ 52, where b is the pattern of s / 2 ^ 52. Nothing is claimed of how near it
+// is: `nearest` tests it, and where it fails, some 3 times in a million, the digits are found one by one.
 fn guess(b: u64) -> u64
     requires { ⌜ 0x3ff0_0000_0000_0000 ≤ b ⌝ ∗ ⌜ b < 0x4010_0000_0000_0000 ⌝ }
     ensures { λ r. ⌜ 2 ^ 52 ≤ r ⌝ ∗ ⌜ r < 2 ^ 53 ⌝ }
@@ -84,28 +84,38 @@ fn guess(b: u64) -> u64
     digits_of(a + ((f - a * a) / (y + a) - 1e-22))
 }
 
-// Whether m is the nearest whole number to the root of s * 2 ^ 52: s * 2 ^ 52 - m * m, built from m's halves so that all of it fits, is
-// more than -m and at most m.
+// Whether m is the nearest whole number to the root of s * 2 ^ 52: whether s * 2 ^ 52 - m * m is more than -m and at most m. With a and b for m's halves of
+// 27 digits, a * a * 2 ^ 54, a * b * 2 ^ 28 and b * b are taken off in turn; 2 ^ 54 is added before the last, which may leave less than nothing. The answer
+// is also no where what is left is below zero or too large to go on with: then the guess was far off, or a * b is nothing.
 fn nearest(s: u64, m: u64) -> bool
     requires { ⌜ s < 2 ^ 54 ⌝ ∗ ⌜ 2 ^ 52 ≤ m ⌝ ∗ ⌜ m < 2 ^ 53 ⌝ }
     ensures { λ r. ⌜ (r ≡ true → Halved s m) ⌝ }
 {
     let a = m / 0x800_0000;
     let b = m % 0x800_0000;
-    let t = s + 0x40_0000_0000_0002 - a * a * 4;
-    let w = t % 0x8000_0000 * 0x100_0000 + 0x80_0000_0000_0000 - a * b;
-    let e = w % 0x8_0000_0000 * 0x1000_0000;
-    let d = b * b + 0x20_0000_0000_0000;
-    if t / 0x8000_0000 != 0x80_0000 {
+    let high = a * a * 4;
+    let cross = a * b;
+    let low = b * b + 0x40_0000_0000_0000;
+    if s < high {
         return false;
     }
-    if w / 0x8_0000_0000 != 0x10_0000 {
+    let t = s - high;
+    if t >= 0x10_0000_0000 {
         return false;
     }
-    if d >= e + m {
+    let u = t * 0x100_0000 + 0x400_0000;
+    if u < cross {
         return false;
     }
-    e <= d + m
+    let v = u - cross;
+    if v >= 0x8_0000_0000 {
+        return false;
+    }
+    let e = v * 0x1000_0000;
+    if low >= e + m {
+        return false;
+    }
+    e <= low + m
 }
 
 // The root of s * 2 ^ 52 rounded to the nearest whole number: a guess that passes the test, or else by digits.
