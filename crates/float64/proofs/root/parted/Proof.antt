@@ -1,9 +1,9 @@
--- `float64::parted` meets its contract. Assumes nothing.
+-- `float64::root::parted` meets its contract. Assumes nothing.
 use native.Mathlib.Omega.{arith}
 use borrow.Author.Needs.{needs}
 use Rattle.float64.proofs.Fields.{widened-low, widened-high}
-use Rattle.float64.proofs.parted.Statement.{statement}
-use Rattle.float64.proofs.parted.Tie as tie
+use Rattle.float64.proofs.root.parted.Statement.{statement}
+use Rattle.float64.proofs.root.parted.Tie as tie
 
 widened-requires : tie.Need-widened-requires
 widened-requires c κs = search needs

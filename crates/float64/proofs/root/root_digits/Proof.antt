@@ -1,9 +1,9 @@
--- `float64::root_digits` meets its contract. The loop's invariant is `Turn`. Assumes nothing.
+-- `float64::root::root_digits` meets its contract. The loop's invariant is `Turn`. Assumes nothing.
 use Prim.Native.Nat.{_-_, _<_, _^_}
 use native.Mathlib.Omega.{arith}
 use Rattle.float64.proofs.Turns.{Turn, q-fits, one, nil, done, start}
-use Rattle.float64.proofs.root_digits.Statement.{statement}
-use Rattle.float64.proofs.root_digits.Tie as tie
+use Rattle.float64.proofs.root.root_digits.Statement.{statement}
+use Rattle.float64.proofs.root.root_digits.Tie as tie
 
 abbrev Inv-loop : tie.InvT-loop
 Inv-loop s rest₀ q₀ rem₀ i₀ rest q rem i = Turn s rest q rem i

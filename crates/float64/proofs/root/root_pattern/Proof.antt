@@ -1,8 +1,8 @@
--- `float64::root_pattern` meets its contract. Assumes nothing.
+-- `float64::root::root_pattern` meets its contract. Assumes nothing.
 use borrow.Author.Needs.{needs}
 use Rattle.float64.specs.Rule.{unitsOf}
-use Rattle.float64.proofs.root_pattern.Statement.{statement}
-use Rattle.float64.proofs.root_pattern.Tie as tie
+use Rattle.float64.proofs.root.root_pattern.Statement.{statement}
+use Rattle.float64.proofs.root.root_pattern.Tie as tie
 
 parted-requires : tie.Need-parted-requires
 parted-requires c κs = search needs

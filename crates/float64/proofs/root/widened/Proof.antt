@@ -1,10 +1,10 @@
--- `float64::widened` meets its contract. The measure is the exponent left. Assumes nothing.
+-- `float64::root::widened` meets its contract. The measure is the exponent left. Assumes nothing.
 use native.Mathlib.Omega.{arith}
 use Prim.Native.Nat.{_<_}
 use mathlib.Core.Path.{refl}
 use Rattle.float64.proofs.Turns.{Shift, shift-some, shift-more}
-use Rattle.float64.proofs.widened.Statement.{statement}
-use Rattle.float64.proofs.widened.Tie as tie
+use Rattle.float64.proofs.root.widened.Statement.{statement}
+use Rattle.float64.proofs.root.widened.Tie as tie
 
 abbrev Inv-loop : tie.InvT-loop
 Inv-loop sig s₀ e₀ s e = Shift sig s e

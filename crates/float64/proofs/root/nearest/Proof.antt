@@ -1,12 +1,12 @@
--- `float64::nearest` meets its contract: only the last way out can say yes, and there every test held. Assumes nothing.
+-- `float64::root::nearest` meets its contract: only the last way out can say yes, and there every test held. Assumes nothing.
 use Prim.Native.Nat.{_+_, _-_, _*_, _/_, _%_, _^_}
 use mathlib.Core.Bool.{false≢true}
 use native.Mathlib.Omega.{arith}
 use borrow.Author.Needs.{needs}
 use borrow.Author.Tests.{leb-true}
 use Rattle.float64.proofs.Tested.{Small, small, tested}
-use Rattle.float64.proofs.nearest.Statement.{statement}
-use Rattle.float64.proofs.nearest.Tie as tie
+use Rattle.float64.proofs.root.nearest.Statement.{statement}
+use Rattle.float64.proofs.root.nearest.Tie as tie
 
 few : (c : tie.Start) → Small (c .args .m / 2 ^ 27) (c .args .m % 2 ^ 27)
 few c = small (c .args .m) (c .pre .1 .1)
