@@ -1,11 +1,12 @@
 -- A pattern's fields, and an odd exponent made even, on plain numbers. Assumes nothing.
-use mathlib.Core.Path.{_≡_, refl, sym, ap, _∙_}
+use mathlib.Core.Path.{_≡_, refl, sym, ap, _∙_, subst}
 use mathlib.Core.Bool.{Bool, cond}
 use Prim.Native.Nat.{ℕ, zero, suc, _+_, _-_, _*_, _/_, _%_, _^_, _≤_, _<_}
 use native.Mathlib.Nat.{mul-assoc}
 use native.Mathlib.Omega.{arith}
 use lib.Pow.{pow-add}
 use borrow.Author.Tests.{eq-eqb, ne-eqb}
+use Rattle.float64.specs.Parts.{Widened}
 use Rattle.float64.specs.Rule.{unitsOf}
 
 bit : (p : ℕ) → p < 2 → 1 + p ≡ 2 ^ p
@@ -42,3 +43,11 @@ pub moved : (s f : ℕ) → (f ≡ 0 → ⊥) → s * 2 ^ (f + 51) ≡ s * 2 ^ (
 moved s f h =
     let z : f + 51 ≡ f - 1 + 52 = omega arith in
     ap (λ (x : ℕ). s * 2 ^ x) z ∙ ap (λ (x : ℕ). s * x) (pow-add 2 (f - 1) 52) ∙ sym (mul-assoc s (2 ^ (f - 1)) (2 ^ 52))
+
+-- so a small number's digits are to be widened, and a normal number's pattern has its 53 digits at hand
+pub widened-low : (b s e : ℕ) → b / 2 ^ 52 ≡ 0 → Widened (b % 2 ^ 52) s e → Widened (unitsOf b) s e
+widened-low b s e h w = subst (λ (u : ℕ). Widened u s e) (sym (units-low b h)) w
+
+pub widened-high : (b : ℕ) → b < 0x7ff0_0000_0000_0000 → (b / 2 ^ 52 ≡ 0 → ⊥) → Widened (unitsOf b) (2 ^ 52 + b % 2 ^ 52) (b / 2 ^ 52 + 51)
+widened-high b l n = subst (λ (u : ℕ). Widened u (2 ^ 52 + b % 2 ^ 52) (b / 2 ^ 52 + 51)) (sym (units-high b n))
+    (record { same = moved (2 ^ 52 + b % 2 ^ 52) (b / 2 ^ 52) n; low = omega arith; high = omega arith; most = omega arith })

@@ -61,14 +61,10 @@ half-at s m M l h =
     (pick s k (leb b (s * 2 ^ 54)) (leb→le b (s * 2 ^ 54)) (nleb→lt b (s * 2 ^ 54))
     (subst (λ (x : ℕ). x * x < s * 2 ^ 52 + x) (sym e) l) (subst (λ (x : ℕ). s * 2 ^ 52 ≤ x * x + x) (sym e) h))
 
--- What the tests of `nearest` say, for the halves a and b of m. t is s + 2 - 4 * a * a and w is t * 2 ^ 24 - a * b, each with a power added that keeps it from
--- falling below zero and that its test finds again.
-pub tested : (s m a b t w : ℕ) → 0 < m → m ≡ a * 2 ^ 27 + b
-    → t + a * a * 4 ≡ s + 0x40_0000_0000_0002 → t / 2 ^ 31 ≡ 2 ^ 23
-    → w + a * b ≡ t % 2 ^ 31 * 2 ^ 24 + 2 ^ 55 → w / 2 ^ 35 ≡ 2 ^ 20
-    → b * b + 2 ^ 53 < w % 2 ^ 35 * 2 ^ 28 + m → w % 2 ^ 35 * 2 ^ 28 ≤ b * b + 2 ^ 53 + m → Halved s m
-tested s m a b t w M z p i v j l h =
+-- What the tests of `nearest` say, for the halves a and b of m: v * 2 ^ 28 is s * 2 ^ 52 - m * m with b * b and 2 ^ 54 added.
+pub tested : (s m a b t v : ℕ) → 0 < m → m ≡ a * 2 ^ 27 + b
+    → t + a * a * 4 ≡ s → v + a * b ≡ t * 2 ^ 24 + 2 ^ 26
+    → b * b + 2 ^ 54 < v * 2 ^ 28 + m → v * 2 ^ 28 ≤ b * b + 2 ^ 54 + m → Halved s m
+tested s m a b t v M z p q l h =
     let e : m * m ≡ a * a * 2 ^ 54 + a * b * 2 ^ 28 + b * b = ap (λ (x : ℕ). x * x) z ∙ sq-halves a b in
-    let f : t % 2 ^ 31 + a * a * 4 ≡ s + 2 = omega arith in
-    let g : w % 2 ^ 35 + a * b ≡ t % 2 ^ 31 * 2 ^ 24 = omega arith in
     half-at s m M (omega arith) (omega arith)

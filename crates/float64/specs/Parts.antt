@@ -15,12 +15,12 @@ pub record Halved (s m : ℕ) : Type 0 where
   pub whole : Whole (s * 2 ^ 54) q
   pub half : (q + 1) / 2 ≡ m
 
--- s * 2 ^ e is n * 2 ^ 52, and s has 53 digits
+-- s * 2 ^ e is n * 2 ^ 52, where s has 53 digits; n units of binary64 are never more than e allows
 pub record Widened (n s e : ℕ) : Type 0 where
   pub same : s * 2 ^ e ≡ n * 2 ^ 52
   pub low : 2 ^ 52 ≤ s
   pub high : s < 2 ^ 53
-  pub most : e ≤ 52
+  pub most : e ≤ 2097
 
 -- r is the pattern of the root of n units
 pub record Rooted (n r : ℕ) : Type 0 where

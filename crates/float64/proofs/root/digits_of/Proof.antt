@@ -1,8 +1,8 @@
--- `float64::digits_of` meets its contract. Assumes nothing.
+-- `float64::root::digits_of` meets its contract. Assumes nothing.
 use borrow.Author.Needs.{needs}
 use Rattle.float64.proofs.Tests.{no-nan}
-use Rattle.float64.proofs.digits_of.Statement.{statement}
-use Rattle.float64.proofs.digits_of.Tie as tie
+use Rattle.float64.proofs.root.digits_of.Statement.{statement}
+use Rattle.float64.proofs.root.digits_of.Tie as tie
 
 returns : tie.Need-returns
 returns c = search needs

@@ -1,10 +1,10 @@
--- `float64::widened` meets its contract. The measure is the exponent left. Assumes nothing.
+-- `float64::root::widened` meets its contract. The measure is the exponent left. Assumes nothing.
 use native.Mathlib.Omega.{arith}
 use Prim.Native.Nat.{_<_}
 use mathlib.Core.Path.{refl}
 use Rattle.float64.proofs.Turns.{Shift, shift-some, shift-more}
-use Rattle.float64.proofs.widened.Statement.{statement}
-use Rattle.float64.proofs.widened.Tie as tie
+use Rattle.float64.proofs.root.widened.Statement.{statement}
+use Rattle.float64.proofs.root.widened.Tie as tie
 
 abbrev Inv-loop : tie.InvT-loop
 Inv-loop sig s₀ e₀ s e = Shift sig s e
@@ -33,7 +33,7 @@ loop-again c = shift-more _ _ _ (c .before .before .pre .0) (c .before .loop .in
 returns : tie.Need-returns Inv-loop μ-loop
 returns c =
     let t = c .before .loop .inv in
-    record { same = t .same; low = c .loop-test .left; high = t .high; most = t .most }
+    record { same = t .same; low = c .loop-test .left; high = t .high; most = omega (arith, t .most) }
 
 pub widened-spec : {M : Type 1} → statement M
 widened-spec = tie.close (tie.spec Inv-loop μ-loop loop-holds mul-s sub-e loop-less loop-again returns)

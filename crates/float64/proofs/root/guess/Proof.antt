@@ -1,10 +1,10 @@
--- `float64::guess` meets its contract. Assumes nothing.
+-- `float64::root::guess` meets its contract. Assumes nothing.
 use Prim.Native.Nat.{_-_, _/_}
 use native.Mathlib.Omega.{arith}
 use Rattle.float64.proofs.Tests.{below-inf}
 use borrow.Author.Needs.{needs}
-use Rattle.float64.proofs.guess.Statement.{statement}
-use Rattle.float64.proofs.guess.Tie as tie
+use Rattle.float64.proofs.root.guess.Statement.{statement}
+use Rattle.float64.proofs.root.guess.Tie as tie
 
 float-from-bits-f : tie.Need-float-from-bits-f
 float-from-bits-f c = below-inf (c .args .b) (omega arith)

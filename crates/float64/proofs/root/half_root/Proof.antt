@@ -1,10 +1,10 @@
--- `float64::half_root` meets its contract. Assumes nothing.
+-- `float64::root::half_root` meets its contract. Assumes nothing.
 use Prim.Native.Nat.{_^_}
 use native.Mathlib.Omega.{arith}
 use borrow.Author.Needs.{needs}
 use Rattle.float64.proofs.Square.{below}
-use Rattle.float64.proofs.half_root.Statement.{statement}
-use Rattle.float64.proofs.half_root.Tie as tie
+use Rattle.float64.proofs.root.half_root.Statement.{statement}
+use Rattle.float64.proofs.root.half_root.Tie as tie
 
 guess-requires : tie.Need-guess-requires
 guess-requires c κs = search needs

@@ -1,4 +1,4 @@
--- `float64::packed` meets its contract. Assumes nothing.
+-- `float64::root::packed` meets its contract. Assumes nothing.
 use Prim.Native.Nat.{ℕ, _+_, _*_, _/_, _%_, _^_, _≤_}
 use mathlib.Core.Path.{_≡_, sym, _∙_, subst}
 use native.Mathlib.Omega.{arith}
@@ -7,8 +7,8 @@ use Rattle.float64.specs.Parts.{Rooted}
 use Rattle.float64.proofs.Fields.{halved, wide}
 use Rattle.float64.proofs.Digits.{q-high}
 use Rattle.float64.proofs.Pattern.{root-at, root-small}
-use Rattle.float64.proofs.packed.Statement.{statement}
-use Rattle.float64.proofs.packed.Tie as tie
+use Rattle.float64.proofs.root.packed.Statement.{statement}
+use Rattle.float64.proofs.root.packed.Tie as tie
 
 digits : (c : tie.Start) → (2 ^ 52 ≤ c .args .sig * (1 + c .args .exp % 2)) × (c .args .sig * (1 + c .args .exp % 2) + 2 ≤ 2 ^ 54)
 digits c = wide (c .args .sig) (c .args .exp % 2) (c .pre .0) (c .pre .1 .0) (omega arith)
