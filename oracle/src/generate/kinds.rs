@@ -51,8 +51,8 @@ pub fn solver(rng: &mut Rng) -> Solver {
 /// Rows and columns, mostly few; up to the size now and then, and the whole size rarely.
 pub fn shape(rng: &mut Rng, size: Size) -> (usize, usize) {
     let (rows, cols) = match rng.below(4000) {
-        0 => return (size.rows, size.cols),
-        1..16 => (size.rows, size.cols),
+        0 | 1 => return (size.rows, size.cols),
+        2..16 => (size.rows, size.cols),
         16..300 => (100, 20),
         _ => (12, 6),
     };
