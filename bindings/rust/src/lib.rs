@@ -4,7 +4,7 @@
 //! and bits, and a refusal has a number. [`oxieml`] holds drop-ins for oxieml's own two functions. [`raw`] is the C
 //! interface itself.
 //!
-//! ```no_run
+//! ```
 //! use dapmotar::{Setup, Stop, strlsq, strlsq_workspace};
 //!
 //! let theta = [1.0, 0.0, 0.0, 1.0];
