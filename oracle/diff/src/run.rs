@@ -53,7 +53,7 @@ pub fn one(function: &Function, seed: u64, index: u64) -> One {
     One {
         difference: difference(&before, (&got, answer), (&expected, wanted)),
         label,
-        accepted: (wanted == 0).then_some(before.sizes),
+        accepted: (wanted == 0 && !before.writes.is_empty()).then_some(before.sizes),
     }
 }
 

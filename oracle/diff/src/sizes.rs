@@ -29,7 +29,6 @@ pub fn any(rng: &mut Rng, limit: usize) -> usize {
 /// A size that no slice has; products of two of them wrap.
 pub fn huge(rng: &mut Rng) -> usize {
     let x = rng.pick(&[
-        1 << 16,
         1 << 31,
         1 << 32,
         1 << 33,
@@ -38,12 +37,12 @@ pub fn huge(rng: &mut Rng) -> usize {
         usize::MAX,
         usize::MAX / 3,
     ]);
-    x.wrapping_add(rng.below(3)).wrapping_sub(1).max(1 << 15)
+    x.wrapping_add(rng.below(3)).wrapping_sub(1).max(1 << 30)
 }
 
 /// The right length, which is none where it is too long to have.
 pub fn right(length: Option<usize>) -> usize {
-    length.filter(|&n| n <= 300_000).unwrap_or(0)
+    length.filter(|&n| n <= 600_000).unwrap_or(0)
 }
 
 /// A length beside the right one.

@@ -280,9 +280,19 @@ unsafe fn fit(
         }
         return refused(sizes.first(), coeffs, workspace);
     }
+    if fault::is(Fault::RefusesAll) {
+        return 1;
+    }
     let used = needed.min(workspace.len());
     workspace[..used].fill(7.0);
+    let before = coeffs.to_vec();
     let said = fit.run(coeffs);
+    if fault::is(Fault::AlwaysZeros) {
+        coeffs.fill(0.0);
+    }
+    if fault::is(Fault::WritesNothing) {
+        coeffs.copy_from_slice(&before);
+    }
     unsafe { *report = said };
     let forgot = fault::is(Fault::WorkspaceNotClearedWithoutData) && said[0] == 0
         || fault::is(Fault::WorkspaceNotClearedAtFirstRefused) && said[0] == 1;

@@ -122,6 +122,9 @@ faults! {
     LambdaNotRooted
     LambdaOnlyAtFirst
     OldValuesStay
+    RefusesAll
+    AlwaysZeros
+    WritesNothing
     // The frames.
     FrameLowDigitFirst
     FrameRowsBeforeColumns
