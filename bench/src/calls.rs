@@ -1,0 +1,108 @@
+//! The calls that are measured: the port's into lent slices, the Rust's as published.
+
+use crate::data::{Data, LAMBDA, MAX_ITER, THRESHOLD};
+use dapmotar::Setup;
+use oracle::linalg;
+use oracle::symreg::strlsq;
+
+/// The port's outputs and workspace, lent to every call.
+pub struct Room {
+    pub out: Vec<f64>,
+    pub workspace: Vec<f64>,
+}
+
+/// One call, by the port and by the Rust. The Rust gives its result; the port leaves it in the room.
+#[derive(Clone, Copy)]
+pub struct Call {
+    pub name: &'static str,
+    /// The numbers of the result.
+    pub out: fn(&Data) -> usize,
+    /// The numbers of workspace.
+    pub workspace: fn(&Data) -> usize,
+    pub port: fn(&Data, &mut Room),
+    pub rust: fn(&Data) -> Vec<f64>,
+}
+
+const SETUP: Setup = Setup {
+    threshold: THRESHOLD,
+    lambda: LAMBDA,
+    max_iter: MAX_ITER,
+};
+
+pub const ALL: [Call; 6] = [
+    Call {
+        name: "jtj",
+        out: |d| d.cols * d.cols,
+        workspace: |_| 0,
+        port: |d, room| {
+            dapmotar::jtj(&d.theta, d.rows, d.cols, LAMBDA, &mut room.out).expect("accepted")
+        },
+        rust: |d| linalg::jtj(&d.theta, d.rows, d.cols, LAMBDA),
+    },
+    Call {
+        name: "jtr",
+        out: |d| d.cols,
+        workspace: |_| 0,
+        port: |d, room| {
+            dapmotar::jtr(&d.theta, &d.target, d.rows, d.cols, &mut room.out).expect("accepted")
+        },
+        rust: |d| linalg::jtr(&d.theta, &d.target, d.rows, d.cols),
+    },
+    Call {
+        name: "solve_normal_equations",
+        out: |d| d.cols,
+        workspace: |d| d.cols * d.cols,
+        port: |d, room| {
+            room.out.copy_from_slice(&d.products);
+            let Room { out, workspace } = room;
+            dapmotar::solve_normal_equations(&d.sums, out, d.cols, workspace).expect("accepted")
+        },
+        rust: |d| {
+            let mut b = d.products.clone();
+            linalg::solve_normal_equations(&d.sums, &mut b, d.cols).expect("accepted");
+            b
+        },
+    },
+    Call {
+        name: "solve_least_squares",
+        out: |d| d.cols,
+        workspace: |d| d.rows * d.cols + 2 * d.rows + 2 * d.cols,
+        port: |d, Room { out, workspace }| {
+            dapmotar::solve_least_squares(&d.theta, &d.target, d.rows, d.cols, out, workspace)
+                .expect("accepted")
+        },
+        rust: |d| {
+            linalg::solve_least_squares(&d.theta, &d.target, d.rows, d.cols).expect("accepted")
+        },
+    },
+    Call {
+        name: "strlsq",
+        out: |d| d.cols,
+        workspace: |d| dapmotar::strlsq_workspace(d.rows, d.cols),
+        port: |d, Room { out, workspace }| {
+            dapmotar::strlsq(&d.theta, d.rows, d.cols, &d.target, SETUP, out, workspace)
+                .map(|_| ())
+                .expect("accepted")
+        },
+        rust: |d| {
+            strlsq::strlsq(
+                &d.theta, d.rows, d.cols, &d.target, THRESHOLD, LAMBDA, MAX_ITER,
+            )
+        },
+    },
+    Call {
+        name: "strlsq_qr",
+        out: |d| d.cols,
+        workspace: |d| dapmotar::strlsq_qr_workspace(d.rows, d.cols),
+        port: |d, Room { out, workspace }| {
+            dapmotar::strlsq_qr(&d.theta, d.rows, d.cols, &d.target, SETUP, out, workspace)
+                .map(|_| ())
+                .expect("accepted")
+        },
+        rust: |d| {
+            strlsq::strlsq_qr(
+                &d.theta, d.rows, d.cols, &d.target, THRESHOLD, LAMBDA, MAX_ITER,
+            )
+        },
+    },
+];

@@ -1,0 +1,48 @@
+//! The port's time against the published Rust's, in one run, as a markdown table.
+
+mod calls;
+mod data;
+mod machine;
+mod measure;
+mod table;
+
+use data::Data;
+use std::env;
+use std::process::ExitCode;
+
+#[cfg(feature = "stand-in")]
+use stand_in as _;
+
+/// Rows and columns that are measured.
+const SHAPES: [(usize, usize); 3] = [(4096, 64), (1000, 16), (128, 16)];
+
+fn main() -> ExitCode {
+    oracle::published::check_build("bench");
+    let write = env::args().skip(1).eq(["--write".to_string()]);
+    if env::args().count() > 1 && !write {
+        eprintln!(
+            "bench            print the table\nbench --write    and put it into bench/README.md"
+        );
+        return ExitCode::from(2);
+    }
+    let mut rows = Vec::new();
+    for (n_rows, n_cols) in SHAPES {
+        let data = Data::new(n_rows, n_cols);
+        for call in calls::ALL {
+            eprintln!("{} at {n_rows}x{n_cols}", call.name);
+            rows.push(table::Row::new(call, &data, measure::measure(call, &data)));
+        }
+    }
+    let text = table::text(&rows);
+    print!("{text}");
+    if write && let Err(e) = table::write(&text) {
+        eprintln!("bench: {e}");
+        return ExitCode::from(2);
+    }
+    let within = rows.iter().all(table::Row::within);
+    if within {
+        ExitCode::SUCCESS
+    } else {
+        ExitCode::FAILURE
+    }
+}

@@ -1,0 +1,96 @@
+//! The markdown table.
+
+use crate::calls::Call;
+use crate::data::Data;
+use crate::machine;
+use crate::measure::Times;
+use std::fs;
+use std::io;
+use std::path::Path;
+
+pub struct Row {
+    name: &'static str,
+    rows: usize,
+    cols: usize,
+    times: Times,
+}
+
+impl Row {
+    pub fn new(call: Call, data: &Data, times: Times) -> Row {
+        Row {
+            name: call.name,
+            rows: data.rows,
+            cols: data.cols,
+            times,
+        }
+    }
+
+    fn ratio(&self) -> f64 {
+        self.times.port / self.times.rust
+    }
+
+    /// The most that the ratio should be.
+    fn limit(&self) -> f64 {
+        match (self.name, self.rows, self.cols) {
+            ("solve_normal_equations", _, 16) => 1.3,
+            ("solve_least_squares" | "strlsq_qr", 4096, 64) => 0.35,
+            ("solve_least_squares" | "strlsq_qr", 128, 16) => 0.85,
+            _ => 1.0,
+        }
+    }
+
+    pub fn within(&self) -> bool {
+        self.ratio() <= self.limit()
+    }
+
+    /// A row of the table. The normal equations alone see the columns only.
+    fn text(&self) -> String {
+        let size = match self.name {
+            "solve_normal_equations" => format!("{0}x{0}, of {1} rows", self.cols, self.rows),
+            _ => format!("{}x{}", self.rows, self.cols),
+        };
+        format!(
+            "| {} | {size} | {} | {} | {}{:.2} | {:.2} |\n",
+            self.name,
+            time(self.times.port),
+            time(self.times.rust),
+            if self.within() { "" } else { "**above** " },
+            self.ratio(),
+            self.limit()
+        )
+    }
+}
+
+fn time(seconds: f64) -> String {
+    match seconds {
+        s if s >= 1e-3 => format!("{:.2} ms", s * 1e3),
+        s => format!("{:.2} µs", s * 1e6),
+    }
+}
+
+/// The table under a line on the machine and the date.
+pub fn text(rows: &[Row]) -> String {
+    let head =
+        "| call | size | port | Rust | port / Rust | most allowed |\n|---|---|---|---|---|---|\n";
+    let body: String = rows.iter().map(Row::text).collect();
+    format!("{}\n\n{head}{body}", machine::line())
+}
+
+const BEGIN: &str = "<!-- table -->\n";
+const END: &str = "<!-- end of table -->\n";
+
+/// Puts the table into the README, between its marks.
+pub fn write(text: &str) -> io::Result<()> {
+    let path = Path::new(env!("CARGO_MANIFEST_DIR")).join("README.md");
+    let readme = fs::read_to_string(&path)?;
+    let parts = readme.split_once(BEGIN).and_then(|(before, rest)| {
+        let (_, after) = rest.split_once(END)?;
+        Some((before, after))
+    });
+    let Some((before, after)) = parts else {
+        return Err(io::Error::other(
+            "bench/README.md has lost the marks of its table",
+        ));
+    };
+    fs::write(&path, format!("{before}{BEGIN}\n{text}\n{END}{after}"))
+}

@@ -1,0 +1,227 @@
+//! A safe wrapper of each call: lent slices in, `Ok` or the refusal out.
+//!
+//! A refusal leaves every slice as it was, but for [`Refusal::Cholesky`] and [`Refusal::SmallPivot`]: see there.
+//! A workspace is +0.0 over the needed length after an accepted call and after `SmallPivot`, and untouched past it.
+
+use crate::raw;
+use crate::refusal::Refusal;
+use crate::report::{Report, Setup};
+
+/// The square root of IEEE 754, rounded to nearest; a NaN for a NaN and for numbers below zero.
+pub fn sqrt(x: f64) -> f64 {
+    raw::dapmotar_sqrt(x)
+}
+
+/// The magnitude.
+pub fn abs(x: f64) -> f64 {
+    raw::dapmotar_abs(x)
+}
+
+/// `JᵀJ + λI` of a matrix by rows, into `out` of `n_params * n_params` numbers. Refuses 1, 2, 4, 6.
+pub fn jtj(
+    jac: &[f64],
+    n_rows: usize,
+    n_params: usize,
+    lambda: f64,
+    out: &mut [f64],
+) -> Result<(), Refusal> {
+    Refusal::answer(unsafe {
+        raw::dapmotar_jtj(
+            jac.as_ptr(),
+            jac.len(),
+            n_rows,
+            n_params,
+            lambda,
+            out.as_mut_ptr(),
+            out.len(),
+        )
+    })
+}
+
+/// `Jᵀr` of a matrix by rows, into `out` of `n_params` numbers. Refuses 1, 2, 4, 5, 6.
+pub fn jtr(
+    jac: &[f64],
+    r: &[f64],
+    n_rows: usize,
+    n_params: usize,
+    out: &mut [f64],
+) -> Result<(), Refusal> {
+    Refusal::answer(unsafe {
+        raw::dapmotar_jtr(
+            jac.as_ptr(),
+            jac.len(),
+            r.as_ptr(),
+            r.len(),
+            n_rows,
+            n_params,
+            out.as_mut_ptr(),
+            out.len(),
+        )
+    })
+}
+
+/// Solves `a x = b` by Cholesky: `a` is left as its factor below the diagonal, `b` as `x`. Refuses 1, 4, 5, 8.
+///
+/// 8 leaves `b` unchanged, and `a` with the factor in the columns before the refused one.
+pub fn solve_spd_cholesky(a: &mut [f64], b: &mut [f64], n: usize) -> Result<(), Refusal> {
+    Refusal::answer(unsafe {
+        raw::dapmotar_solve_spd_cholesky(a.as_mut_ptr(), a.len(), b.as_mut_ptr(), b.len(), n)
+    })
+}
+
+/// Solves `a x = b` by LU with row swaps: `a` is left as its factors, `b` as `x`. Refuses 1, 4, 5, 9.
+///
+/// 9 leaves `a` as the steps so far made it, and `b` with the row swaps only.
+pub fn solve_lu(a: &mut [f64], b: &mut [f64], n: usize) -> Result<(), Refusal> {
+    Refusal::answer(unsafe {
+        raw::dapmotar_solve_lu(a.as_mut_ptr(), a.len(), b.as_mut_ptr(), b.len(), n)
+    })
+}
+
+/// Solves `a x = b` by Cholesky and, where that refuses, by LU; `b` is left as `x`. The workspace needs `n * n`
+/// numbers. Refuses 1, 4, 5, 7, 9; 9 leaves `b` with LU's row swaps.
+pub fn solve_normal_equations(
+    a: &[f64],
+    b: &mut [f64],
+    n: usize,
+    workspace: &mut [f64],
+) -> Result<(), Refusal> {
+    Refusal::answer(unsafe {
+        raw::dapmotar_solve_normal_equations(
+            a.as_ptr(),
+            a.len(),
+            b.as_mut_ptr(),
+            b.len(),
+            n,
+            workspace.as_mut_ptr(),
+            workspace.len(),
+        )
+    })
+}
+
+/// The Householder factors of an m by n matrix: `data` of `m * n` numbers, `betas` of `n`. The workspace needs
+/// `m` numbers. Refuses 1, 2, 4, 6, 10, 7.
+pub fn qr(
+    a: &[f64],
+    m: usize,
+    n: usize,
+    data: &mut [f64],
+    betas: &mut [f64],
+    workspace: &mut [f64],
+) -> Result<(), Refusal> {
+    Refusal::answer(unsafe {
+        raw::dapmotar_qr(
+            a.as_ptr(),
+            a.len(),
+            m,
+            n,
+            data.as_mut_ptr(),
+            data.len(),
+            betas.as_mut_ptr(),
+            betas.len(),
+            workspace.as_mut_ptr(),
+            workspace.len(),
+        )
+    })
+}
+
+/// The x of the least `||a x - b||`, into `out` of `n` numbers. The workspace needs `m*n + 2*m + 2*n` numbers.
+/// Refuses 1, 2, 4, 5, 6, 10, 7, 9; 9 leaves `out` unchanged.
+pub fn solve_least_squares(
+    a: &[f64],
+    b: &[f64],
+    m: usize,
+    n: usize,
+    out: &mut [f64],
+    workspace: &mut [f64],
+) -> Result<(), Refusal> {
+    Refusal::answer(unsafe {
+        raw::dapmotar_solve_least_squares(
+            a.as_ptr(),
+            a.len(),
+            b.as_ptr(),
+            b.len(),
+            m,
+            n,
+            out.as_mut_ptr(),
+            out.len(),
+            workspace.as_mut_ptr(),
+            workspace.len(),
+        )
+    })
+}
+
+/// The fit by normal equations: coefficients into `coeffs` of `n_cols` numbers, and the report. The workspace
+/// needs [`strlsq_workspace`] numbers. Refuses 1 to 7.
+pub fn strlsq(
+    theta: &[f64],
+    n_rows: usize,
+    n_cols: usize,
+    target: &[f64],
+    setup: Setup,
+    coeffs: &mut [f64],
+    workspace: &mut [f64],
+) -> Result<Report, Refusal> {
+    let mut report = [0; 3];
+    Refusal::answer(unsafe {
+        raw::dapmotar_strlsq(
+            theta.as_ptr(),
+            theta.len(),
+            n_rows,
+            n_cols,
+            target.as_ptr(),
+            target.len(),
+            setup.threshold,
+            setup.lambda,
+            setup.max_iter,
+            coeffs.as_mut_ptr(),
+            coeffs.len(),
+            workspace.as_mut_ptr(),
+            workspace.len(),
+            &mut report,
+        )
+    })?;
+    Ok(Report::from_words(report))
+}
+
+/// The fit by QR: as [`strlsq`], with [`strlsq_qr_workspace`] numbers of workspace. Refuses 1 to 7.
+pub fn strlsq_qr(
+    theta: &[f64],
+    n_rows: usize,
+    n_cols: usize,
+    target: &[f64],
+    setup: Setup,
+    coeffs: &mut [f64],
+    workspace: &mut [f64],
+) -> Result<Report, Refusal> {
+    let mut report = [0; 3];
+    Refusal::answer(unsafe {
+        raw::dapmotar_strlsq_qr(
+            theta.as_ptr(),
+            theta.len(),
+            n_rows,
+            n_cols,
+            target.as_ptr(),
+            target.len(),
+            setup.threshold,
+            setup.lambda,
+            setup.max_iter,
+            coeffs.as_mut_ptr(),
+            coeffs.len(),
+            workspace.as_mut_ptr(),
+            workspace.len(),
+            &mut report,
+        )
+    })?;
+    Ok(Report::from_words(report))
+}
+
+/// The workspace that [`strlsq`] needs, in numbers; 0 where the sizes are beyond the limits.
+pub fn strlsq_workspace(n_rows: usize, n_cols: usize) -> usize {
+    raw::dapmotar_strlsq_workspace(n_rows, n_cols)
+}
+
+/// The workspace that [`strlsq_qr`] needs, in numbers; 0 where the sizes are beyond the limits.
+pub fn strlsq_qr_workspace(n_rows: usize, n_cols: usize) -> usize {
+    raw::dapmotar_strlsq_qr_workspace(n_rows, n_cols)
+}

@@ -1,0 +1,114 @@
+//! The exports of the static library, as include/dapmotar.h declares them. A slice is a pointer and a length; a
+//! null pointer with length 0 is an empty slice.
+
+unsafe extern "C" {
+    pub safe fn dapmotar_sqrt(x: f64) -> f64;
+
+    pub safe fn dapmotar_abs(x: f64) -> f64;
+
+    pub fn dapmotar_jtj(
+        jac: *const f64,
+        jac_len: usize,
+        n_rows: usize,
+        n_params: usize,
+        lambda: f64,
+        out: *mut f64,
+        out_len: usize,
+    ) -> u64;
+
+    pub fn dapmotar_jtr(
+        jac: *const f64,
+        jac_len: usize,
+        r: *const f64,
+        r_len: usize,
+        n_rows: usize,
+        n_params: usize,
+        out: *mut f64,
+        out_len: usize,
+    ) -> u64;
+
+    pub fn dapmotar_solve_spd_cholesky(
+        a: *mut f64,
+        a_len: usize,
+        b: *mut f64,
+        b_len: usize,
+        n: usize,
+    ) -> u64;
+
+    pub fn dapmotar_solve_lu(a: *mut f64, a_len: usize, b: *mut f64, b_len: usize, n: usize)
+    -> u64;
+
+    pub fn dapmotar_solve_normal_equations(
+        a: *const f64,
+        a_len: usize,
+        b: *mut f64,
+        b_len: usize,
+        n: usize,
+        workspace: *mut f64,
+        workspace_len: usize,
+    ) -> u64;
+
+    pub fn dapmotar_qr(
+        a: *const f64,
+        a_len: usize,
+        m: usize,
+        n: usize,
+        data: *mut f64,
+        data_len: usize,
+        betas: *mut f64,
+        betas_len: usize,
+        workspace: *mut f64,
+        workspace_len: usize,
+    ) -> u64;
+
+    pub fn dapmotar_solve_least_squares(
+        a: *const f64,
+        a_len: usize,
+        b: *const f64,
+        b_len: usize,
+        m: usize,
+        n: usize,
+        out: *mut f64,
+        out_len: usize,
+        workspace: *mut f64,
+        workspace_len: usize,
+    ) -> u64;
+
+    pub fn dapmotar_strlsq(
+        theta: *const f64,
+        theta_len: usize,
+        n_rows: usize,
+        n_cols: usize,
+        target: *const f64,
+        target_len: usize,
+        threshold: f64,
+        lambda: f64,
+        max_iter: usize,
+        coeffs: *mut f64,
+        coeffs_len: usize,
+        workspace: *mut f64,
+        workspace_len: usize,
+        report: *mut [u64; 3],
+    ) -> u64;
+
+    pub fn dapmotar_strlsq_qr(
+        theta: *const f64,
+        theta_len: usize,
+        n_rows: usize,
+        n_cols: usize,
+        target: *const f64,
+        target_len: usize,
+        threshold: f64,
+        lambda: f64,
+        max_iter: usize,
+        coeffs: *mut f64,
+        coeffs_len: usize,
+        workspace: *mut f64,
+        workspace_len: usize,
+        report: *mut [u64; 3],
+    ) -> u64;
+
+    pub safe fn dapmotar_strlsq_workspace(n_rows: usize, n_cols: usize) -> usize;
+
+    pub safe fn dapmotar_strlsq_qr_workspace(n_rows: usize, n_cols: usize) -> usize;
+}

@@ -1,0 +1,57 @@
+//! A fit's setup and its report.
+
+/// The threshold, lambda and round limit of a fit. Any f64 will do for the first two.
+#[derive(Clone, Copy, Debug, PartialEq)]
+pub struct Setup {
+    /// A term is kept while its coefficient's magnitude is at least this.
+    pub threshold: f64,
+    /// The ridge damping.
+    pub lambda: f64,
+    /// The most rounds, at most 1,000.
+    pub max_iter: usize,
+}
+
+/// Why a fit ended.
+#[derive(Clone, Copy, Debug, PartialEq, Eq, Hash)]
+#[repr(u64)]
+pub enum Stop {
+    /// No rows or no columns: zeros.
+    NoData = 0,
+    /// The first solve was refused: zeros.
+    FirstRefused = 1,
+    /// No term was kept: zeros.
+    Empty = 2,
+    /// A refit was refused: zeros.
+    RefitRefused = 3,
+    /// A look kept the terms of the last refit.
+    Settled = 4,
+    /// The rounds were used up. Only here a coefficient can be NaN.
+    OutOfRounds = 5,
+}
+
+/// What a fit says beside its coefficients.
+#[derive(Clone, Copy, Debug, PartialEq, Eq, Hash)]
+pub struct Report {
+    /// Why it ended.
+    pub stop: Stop,
+    /// How many refits were tried.
+    pub refits: u64,
+    /// Bit j is one exactly if term j's final magnitude is at least the threshold.
+    pub kept: u64,
+}
+
+impl Report {
+    /// A report as the library writes it: stop, refits, kept word.
+    pub(crate) fn from_words([stop, refits, kept]: [u64; 3]) -> Report {
+        let stop = match stop {
+            0 => Stop::NoData,
+            1 => Stop::FirstRefused,
+            2 => Stop::Empty,
+            3 => Stop::RefitRefused,
+            4 => Stop::Settled,
+            5 => Stop::OutOfRounds,
+            other => unreachable!("the library gives no stop {other}"),
+        };
+        Report { stop, refits, kept }
+    }
+}

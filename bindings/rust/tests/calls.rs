@@ -1,0 +1,141 @@
+//! Each safe wrapper once: its answer, and a refusal.
+
+use dapmotar::*;
+
+#[test]
+fn root_and_magnitude() {
+    assert_eq!(sqrt(4.0), 2.0);
+    assert_eq!(sqrt(2.0).to_bits(), 0x3ff6_a09e_667f_3bcd);
+    assert!(sqrt(-1.0).is_nan());
+    assert_eq!(abs(-0.0).to_bits(), 0);
+}
+
+#[test]
+fn builders() {
+    let (mut sums, mut products) = ([9.0; 4], [9.0; 2]);
+    let jac = [1.0, 2.0, 3.0, 4.0];
+    assert_eq!(jtj(&jac, 2, 2, 0.5, &mut sums), Ok(()));
+    assert_eq!(sums, [10.5, 14.0, 14.0, 20.5]);
+    assert_eq!(jtr(&jac, &[1.0, -1.0], 2, 2, &mut products), Ok(()));
+    assert_eq!(products, [-2.0, -2.0]);
+    assert_eq!(jtj(&jac, 2, 65, 0.5, &mut sums), Err(Refusal::Columns));
+    assert_eq!(jtj(&jac, 4097, 2, 0.5, &mut sums), Err(Refusal::Rows));
+    assert_eq!(
+        jtr(&jac, &[1.0], 2, 2, &mut products),
+        Err(Refusal::RightHandSide)
+    );
+    assert_eq!(
+        jtr(&jac, &[1.0, -1.0], 2, 2, &mut sums),
+        Err(Refusal::Output)
+    );
+}
+
+#[test]
+fn square_solvers() {
+    let (mut a, mut b) = ([4.0, 2.0, 2.0, 5.0], [8.0, 8.0]);
+    assert_eq!(solve_spd_cholesky(&mut a, &mut b, 2), Ok(()));
+    assert_eq!(b, [1.5, 1.0]);
+    let mut a = [1e-14];
+    assert_eq!(
+        solve_spd_cholesky(&mut a, &mut [1.0], 1),
+        Err(Refusal::Cholesky)
+    );
+
+    let (mut a, mut b) = ([1.0, 2.0, -1.0, 3.0], [1.0, 4.0]);
+    assert_eq!(solve_lu(&mut a, &mut b, 2), Ok(()));
+    assert_eq!((a, b), ([1.0, 2.0, -1.0, 5.0], [-1.0, 1.0]));
+    assert_eq!(
+        solve_lu(&mut [0.0], &mut [1.0], 1),
+        Err(Refusal::SmallPivot)
+    );
+
+    let (mut b, mut workspace) = ([1.0, 4.0], [7.0; 5]);
+    let a = [1.0, 2.0, -1.0, 3.0];
+    assert_eq!(
+        solve_normal_equations(&a, &mut b, 2, &mut workspace),
+        Ok(())
+    );
+    assert_eq!(workspace, [0.0, 0.0, 0.0, 0.0, 7.0]);
+    let short = solve_normal_equations(&a, &mut b, 2, &mut workspace[..3]);
+    assert_eq!(short, Err(Refusal::Workspace));
+}
+
+#[test]
+fn householder() {
+    let (mut data, mut betas, mut workspace) = ([9.0; 2], [9.0], [9.0; 6]);
+    let column = [-0.0, 1.0];
+    assert_eq!(
+        qr(&column, 2, 1, &mut data, &mut betas, &mut workspace),
+        Ok(())
+    );
+    assert_eq!((data, betas), ([-1.0, 1.0], [1.0]));
+    let mut x = [9.0];
+    let wide = solve_least_squares(&[1.0, 2.0], &[1.0], 1, 2, &mut data, &mut workspace);
+    assert_eq!(wide, Err(Refusal::FewerRowsThanColumns));
+    let mut workspace = [9.0; 8];
+    assert_eq!(
+        solve_least_squares(&[0.0, 2.0], &[5.0, 6.0], 2, 1, &mut x, &mut workspace),
+        Ok(())
+    );
+    assert_eq!(x, [3.0]);
+    assert_eq!(workspace, [0.0; 8]);
+}
+
+#[test]
+fn fits() {
+    let theta = [1.0, 0.0, 0.0, 1.0];
+    let target = [3.0, 0.25];
+    let setup = Setup {
+        threshold: 0.5,
+        lambda: 0.0,
+        max_iter: 10,
+    };
+    let settled = Ok(Report {
+        stop: Stop::Settled,
+        refits: 1,
+        kept: 1,
+    });
+    let mut coeffs = [9.0; 2];
+
+    let mut workspace = vec![9.0; strlsq_workspace(2, 2)];
+    assert_eq!(
+        strlsq(&theta, 2, 2, &target, setup, &mut coeffs, &mut workspace),
+        settled
+    );
+    assert_eq!(coeffs, [3.0, 0.0]);
+
+    let mut workspace = vec![9.0; strlsq_qr_workspace(2, 2)];
+    assert_eq!(
+        strlsq_qr(&theta, 2, 2, &target, setup, &mut coeffs, &mut workspace),
+        settled
+    );
+    assert_eq!(coeffs, [3.0, 0.0]);
+
+    let many = Setup {
+        max_iter: 1001,
+        ..setup
+    };
+    let refused = strlsq(&theta, 2, 2, &target, many, &mut coeffs, &mut workspace);
+    assert_eq!(refused, Err(Refusal::Rounds));
+    assert_eq!(strlsq_workspace(2, 65), 0);
+}
+
+#[test]
+fn empty_slices() {
+    assert_eq!(jtj(&[], 0, 0, 1.0, &mut []), Ok(()));
+    assert_eq!(solve_lu(&mut [], &mut [], 0), Ok(()));
+    let setup = Setup {
+        threshold: 0.5,
+        lambda: 0.0,
+        max_iter: 0,
+    };
+    let report = strlsq(&[], 0, 0, &[], setup, &mut [], &mut []);
+    assert_eq!(
+        report,
+        Ok(Report {
+            stop: Stop::NoData,
+            refits: 0,
+            kept: 0
+        })
+    );
+}

@@ -1,0 +1,150 @@
+/*
+ * dapmotar.h: the fitting core of a calibration bench, from C and C++.
+ *
+ * The library is target/staticlib/libcapi.a, made by `rt staticlib capi` at the top of the repository.
+ *
+ * Slices.      A slice is a pointer and its length in numbers. A null pointer with length 0 is an empty slice.
+ *              Slices that are written must not overlap each other or one that is read.
+ * Matrices     stand by rows: entry (i, j) of a matrix of n columns is number i*n + j.
+ * Numbers      may have any bits: infinities, NaN, zeros of both signs. Each operation rounds once, to nearest.
+ *              Where a result is NaN, its bits are not promised.
+ * Answers.     0, or the number of the refusal: the first that applies, in the order below. No call traps.
+ * Workspaces   are lent by the caller. They may be longer than needed. After an accepted call and after 9 they are
+ *              +0.0 over the needed length; numbers past it are untouched.
+ * Threads.     A call touches nothing but its arguments.
+ */
+#ifndef DAPMOTAR_H
+#define DAPMOTAR_H
+
+#include <stddef.h>
+#include <stdint.h>
+
+#ifdef __cplusplus
+extern "C" {
+#endif
+
+/* Limits. */
+enum {
+    DAPMOTAR_MAX_COLS = 64,     /* columns of a fit, jtj, jtr, qr, least squares; n of a square solver */
+    DAPMOTAR_MAX_ROWS = 4096,   /* rows of a fit, jtj, jtr */
+    DAPMOTAR_MAX_QR_ROWS = 4160, /* rows of qr and least squares */
+    DAPMOTAR_MAX_ROUNDS = 1000  /* max_iter of a fit */
+};
+
+/*
+ * Refusals, in the order in which they are looked for. All but 8 and 9 leave every slice unchanged; what 8 and 9
+ * leave is said at the calls that give them.
+ */
+enum {
+    DAPMOTAR_ACCEPTED = 0,
+    DAPMOTAR_COLUMNS = 1,         /* columns above the limit */
+    DAPMOTAR_ROWS = 2,            /* rows above the limit */
+    DAPMOTAR_ROUNDS = 3,          /* max_iter above 1,000 */
+    DAPMOTAR_MATRIX = 4,          /* the matrix is not rows * columns long */
+    DAPMOTAR_RIGHT_HAND_SIDE = 5, /* the target or right-hand side is not as long as there are rows */
+    DAPMOTAR_OUTPUT = 6,          /* an output has the wrong length */
+    DAPMOTAR_FEWER_ROWS = 10,     /* fewer rows than columns: qr and least squares only */
+    DAPMOTAR_WORKSPACE = 7,       /* the workspace is shorter than needed */
+    DAPMOTAR_CHOLESKY = 8,        /* Cholesky refuses: not positive definite */
+    DAPMOTAR_SMALL_PIVOT = 9      /* a small pivot or diagonal: singular */
+};
+
+/* Why a fit ended: the first number of its report. */
+enum {
+    DAPMOTAR_NO_DATA = 0,       /* no rows or no columns: zeros */
+    DAPMOTAR_FIRST_REFUSED = 1, /* the first solve was refused: zeros */
+    DAPMOTAR_EMPTY = 2,         /* no term was kept: zeros */
+    DAPMOTAR_REFIT_REFUSED = 3, /* a refit was refused: zeros */
+    DAPMOTAR_SETTLED = 4,       /* a look kept the terms of the last refit */
+    DAPMOTAR_OUT_OF_ROUNDS = 5  /* max_iter rounds are used up; only here a coefficient can be NaN */
+};
+
+/* The square root, rounded to nearest. Zeros and +infinity give themselves; NaN and numbers below zero a NaN. */
+double dapmotar_sqrt(double x);
+
+/* The magnitude. */
+double dapmotar_abs(double x);
+
+/*
+ * out = J^T J + lambda I, for J of n_rows by n_params. out has n_params * n_params numbers.
+ * Refusals: 1, 2, 4, 6.
+ */
+uint64_t dapmotar_jtj(const double *jac, size_t jac_len, size_t n_rows, size_t n_params, double lambda,
+                      double *out, size_t out_len);
+
+/*
+ * out = J^T r, for J of n_rows by n_params and r of n_rows. out has n_params numbers.
+ * Refusals: 1, 2, 4, 5, 6.
+ */
+uint64_t dapmotar_jtr(const double *jac, size_t jac_len, const double *r, size_t r_len, size_t n_rows,
+                      size_t n_params, double *out, size_t out_len);
+
+/*
+ * Solves a x = b by Cholesky, for a of n by n: b becomes x, a its factor on and below the diagonal.
+ * Refusals: 1, 4, 5, 8. 8 leaves b unchanged; the columns of a before the refused one hold the factor on and below
+ * the diagonal, all else of a is unchanged.
+ */
+uint64_t dapmotar_solve_spd_cholesky(double *a, size_t a_len, double *b, size_t b_len, size_t n);
+
+/*
+ * Solves a x = b by LU with row swaps, for a of n by n: b becomes x, a its factors.
+ * Refusals: 1, 4, 5, 9. 9 leaves a and b as the steps so far made them (b: the row swaps only).
+ */
+uint64_t dapmotar_solve_lu(double *a, size_t a_len, double *b, size_t b_len, size_t n);
+
+/*
+ * Solves a x = b by Cholesky and, where that refuses, by LU: b becomes x. Workspace: n * n numbers.
+ * Refusals: 1, 4, 5, 7, 9. 9 leaves b with LU's row swaps.
+ */
+uint64_t dapmotar_solve_normal_equations(const double *a, size_t a_len, double *b, size_t b_len, size_t n,
+                                         double *workspace, size_t workspace_len);
+
+/*
+ * The Householder factors of a, m by n: data has m * n numbers (R on and above the diagonal, the vectors below it
+ * with a leading 1 that is not stored), betas has n. Workspace: m numbers.
+ * Refusals: 1, 2, 4, 6, 10, 7.
+ */
+uint64_t dapmotar_qr(const double *a, size_t a_len, size_t m, size_t n, double *data, size_t data_len,
+                     double *betas, size_t betas_len, double *workspace, size_t workspace_len);
+
+/*
+ * out = the x of least ||a x - b||, for a of m by n and b of m. out has n numbers.
+ * Workspace: m * n + 2 * m + 2 * n numbers.
+ * Refusals: 1, 2, 4, 5, 6, 10, 7, 9. 9 leaves out unchanged.
+ */
+uint64_t dapmotar_solve_least_squares(const double *a, size_t a_len, const double *b, size_t b_len, size_t m,
+                                      size_t n, double *out, size_t out_len, double *workspace,
+                                      size_t workspace_len);
+
+/*
+ * The fit by normal equations. theta has n_rows * n_cols numbers, a column a term; target has n_rows; coeffs has
+ * n_cols. Terms whose coefficient's magnitude is below the threshold are dropped and the others fitted again, for at
+ * most max_iter rounds.
+ * report: the stop; how many refits were tried; the kept word, whose bit j is one exactly if term j's final
+ * magnitude is at least the threshold. It is written only if the call is accepted.
+ * Workspace: dapmotar_strlsq_workspace(n_rows, n_cols) numbers.
+ * Refusals: 1, 2, 3, 4, 5, 6, 7.
+ */
+uint64_t dapmotar_strlsq(const double *theta, size_t theta_len, size_t n_rows, size_t n_cols,
+                         const double *target, size_t target_len, double threshold, double lambda,
+                         size_t max_iter, double *coeffs, size_t coeffs_len, double *workspace,
+                         size_t workspace_len, uint64_t report[3]);
+
+/* The fit by QR: the same, with dapmotar_strlsq_qr_workspace(n_rows, n_cols) numbers of workspace. */
+uint64_t dapmotar_strlsq_qr(const double *theta, size_t theta_len, size_t n_rows, size_t n_cols,
+                            const double *target, size_t target_len, double threshold, double lambda,
+                            size_t max_iter, double *coeffs, size_t coeffs_len, double *workspace,
+                            size_t workspace_len, uint64_t report[3]);
+
+/*
+ * The numbers of workspace that a fit needs, with r rows and c columns: r*c + 2*c*c + c for the normal equations,
+ * 2*(r+c)*c + 3*(r+c) + 3*c for QR; 0 where the sizes are beyond the limits.
+ */
+size_t dapmotar_strlsq_workspace(size_t n_rows, size_t n_cols);
+size_t dapmotar_strlsq_qr_workspace(size_t n_rows, size_t n_cols);
+
+#ifdef __cplusplus
+}
+#endif
+
+#endif

@@ -1,0 +1,112 @@
+//! `jtj` and `jtr`.
+
+use super::number;
+use crate::call::{Call, Function, number_label};
+use crate::matrices;
+use crate::sizes::{Plan, given, junk};
+use dapmotar::raw;
+use oracle::generate::setups;
+use oracle::model;
+use oracle::refusal::{MAX_COLS, MAX_ROWS};
+use oracle::rng::Rng;
+
+pub const JTJ: Function = Function {
+    name: "jtj",
+    make: make_jtj,
+    library: library_jtj,
+    model: |call| {
+        let (jac, out) = (call.reads[0].numbers(), call.writes[0].numbers_mut());
+        number(model::jtj(
+            jac,
+            call.sizes[0],
+            call.sizes[1],
+            call.floats[0],
+            out,
+        ))
+    },
+    label: number_label,
+};
+
+pub const JTR: Function = Function {
+    name: "jtr",
+    make: make_jtr,
+    library: library_jtr,
+    model: |call| {
+        let (jac, r) = (call.reads[0].numbers(), call.reads[1].numbers());
+        number(model::jtr(
+            jac,
+            r,
+            call.sizes[0],
+            call.sizes[1],
+            call.writes[0].numbers_mut(),
+        ))
+    },
+    label: number_label,
+};
+
+fn make_jtj(rng: &mut Rng) -> Call {
+    let plan = Plan::new(rng);
+    let (rows, cols) = (plan.size(rng, MAX_ROWS), plan.size(rng, MAX_COLS));
+    let jac_len = plan.length(rng, rows.checked_mul(cols));
+    let out_len = plan.length(rng, cols.checked_mul(cols));
+    let jac = matrices::drawn(rng, jac_len);
+    Call {
+        sizes: vec![rows, cols],
+        floats: vec![setups::odd_lambda(rng)],
+        reads: vec![given(rng, "jac", &jac)],
+        writes: vec![junk(rng, "out", out_len)],
+        workspace: None,
+        report: [0; 3],
+    }
+}
+
+fn make_jtr(rng: &mut Rng) -> Call {
+    let plan = Plan::new(rng);
+    let (rows, cols) = (plan.size(rng, MAX_ROWS), plan.size(rng, MAX_COLS));
+    let jac_len = plan.length(rng, rows.checked_mul(cols));
+    let r_len = plan.length(rng, Some(rows));
+    let out_len = plan.length(rng, Some(cols));
+    let (jac, r) = (matrices::drawn(rng, jac_len), matrices::drawn(rng, r_len));
+    Call {
+        sizes: vec![rows, cols],
+        floats: vec![],
+        reads: vec![given(rng, "jac", &jac), given(rng, "r", &r)],
+        writes: vec![junk(rng, "out", out_len)],
+        workspace: None,
+        report: [0; 3],
+    }
+}
+
+fn library_jtj(call: &mut Call) -> u64 {
+    let (jac, out) = (&mut call.reads[0], &mut call.writes[0]);
+    unsafe {
+        raw::dapmotar_jtj(
+            jac.ptr(),
+            jac.len(),
+            call.sizes[0],
+            call.sizes[1],
+            call.floats[0],
+            out.ptr(),
+            out.len(),
+        )
+    }
+}
+
+fn library_jtr(call: &mut Call) -> u64 {
+    let [jac, r] = call.reads.as_mut_slice() else {
+        unreachable!("two are read")
+    };
+    let out = &mut call.writes[0];
+    unsafe {
+        raw::dapmotar_jtr(
+            jac.ptr(),
+            jac.len(),
+            r.ptr(),
+            r.len(),
+            call.sizes[0],
+            call.sizes[1],
+            out.ptr(),
+            out.len(),
+        )
+    }
+}

@@ -1,0 +1,200 @@
+//! Both fits.
+
+use crate::call::{Call, Function};
+use crate::matrices;
+use crate::sizes::{Plan, given, junk};
+use dapmotar::raw;
+use oracle::fit::{Report, Stop};
+use oracle::generate::kinds::{self, Size};
+use oracle::generate::setups;
+use oracle::model;
+use oracle::problem::{Setup, Solver};
+use oracle::refusal::{MAX_COLS, MAX_ROUNDS, MAX_ROWS, Refusal};
+use oracle::rng::Rng;
+
+pub const STRLSQ: Function = Function {
+    name: "strlsq",
+    make: |rng| make(rng, Solver::Normal),
+    library: |call| library(call, raw::dapmotar_strlsq),
+    model: |call| run_model(call, model::strlsq),
+    label,
+};
+
+pub const STRLSQ_QR: Function = Function {
+    name: "strlsq_qr",
+    make: |rng| make(rng, Solver::Qr),
+    library: |call| library(call, raw::dapmotar_strlsq_qr),
+    model: |call| run_model(call, model::strlsq_qr),
+    label,
+};
+
+/// The most that a fit takes.
+pub const SIZE: Size = Size {
+    rows: MAX_ROWS,
+    cols: MAX_COLS,
+};
+
+fn make(rng: &mut Rng, solver: Solver) -> Call {
+    let plan = Plan::new(rng);
+    if plan.is_right() {
+        right(rng, plan, solver)
+    } else {
+        any(rng, plan, solver)
+    }
+}
+
+/// A problem of exact lengths; the workspace may be short.
+fn right(rng: &mut Rng, plan: Plan, solver: Solver) -> Call {
+    // Some kinds are built for one solver.
+    let problem = loop {
+        let (_, mut problem) = kinds::any(rng, SIZE);
+        if problem.solver == solver || rng.once_in(8) {
+            problem.solver = solver;
+            break problem;
+        }
+    };
+    let sizes = [problem.rows, problem.cols];
+    call(
+        rng,
+        plan,
+        solver,
+        sizes,
+        problem.setup,
+        &problem.theta,
+        &problem.target,
+        problem.cols,
+    )
+}
+
+/// Any sizes, lengths and limits.
+fn any(rng: &mut Rng, plan: Plan, solver: Solver) -> Call {
+    let (rows, cols) = (plan.size(rng, MAX_ROWS), plan.size(rng, MAX_COLS));
+    let theta_len = plan.length(rng, rows.checked_mul(cols));
+    let target_len = plan.length(rng, Some(rows));
+    let coeffs_len = plan.length(rng, Some(cols));
+    let mut setup = setups::odd(rng);
+    // Many rounds only where there is little to do in each.
+    setup.max_iter = plan.size(rng, MAX_ROUNDS);
+    let (theta, target) = (
+        matrices::drawn(rng, theta_len),
+        matrices::drawn(rng, target_len),
+    );
+    call(
+        rng,
+        plan,
+        solver,
+        [rows, cols],
+        setup,
+        &theta,
+        &target,
+        coeffs_len,
+    )
+}
+
+#[allow(clippy::too_many_arguments)]
+fn call(
+    rng: &mut Rng,
+    plan: Plan,
+    solver: Solver,
+    [rows, cols]: [usize; 2],
+    setup: Setup,
+    theta: &[f64],
+    target: &[f64],
+    coeffs_len: usize,
+) -> Call {
+    let needed = match solver {
+        Solver::Normal => model::strlsq_workspace(rows, cols),
+        Solver::Qr => model::strlsq_qr_workspace(rows, cols),
+    };
+    let workspace_len = plan.workspace(rng, Some(needed));
+    Call {
+        sizes: vec![rows, cols, setup.max_iter],
+        floats: vec![setup.threshold, setup.lambda],
+        reads: vec![given(rng, "theta", theta), given(rng, "target", target)],
+        writes: vec![junk(rng, "coeffs", coeffs_len)],
+        workspace: Some((junk(rng, "workspace", workspace_len), needed)),
+        report: [rng.word(), rng.word(), rng.word()],
+    }
+}
+
+type Export = unsafe extern "C" fn(
+    *const f64,
+    usize,
+    usize,
+    usize,
+    *const f64,
+    usize,
+    f64,
+    f64,
+    usize,
+    *mut f64,
+    usize,
+    *mut f64,
+    usize,
+    *mut [u64; 3],
+) -> u64;
+
+fn library(call: &mut Call, export: Export) -> u64 {
+    let [theta, target] = call.reads.as_mut_slice() else {
+        unreachable!("two are read")
+    };
+    let coeffs = &mut call.writes[0];
+    let (workspace, _) = call.workspace.as_mut().expect("it has one");
+    unsafe {
+        export(
+            theta.ptr(),
+            theta.len(),
+            call.sizes[0],
+            call.sizes[1],
+            target.ptr(),
+            target.len(),
+            call.floats[0],
+            call.floats[1],
+            call.sizes[2],
+            coeffs.ptr(),
+            coeffs.len(),
+            workspace.ptr(),
+            workspace.len(),
+            &mut call.report,
+        )
+    }
+}
+
+type Model =
+    fn(&[f64], usize, usize, &[f64], Setup, &mut [f64], &mut [f64]) -> Result<Report, Refusal>;
+
+fn run_model(call: &mut Call, model: Model) -> u64 {
+    let (workspace, _) = call.workspace.as_mut().expect("it has one");
+    let setup = Setup {
+        threshold: call.floats[0],
+        lambda: call.floats[1],
+        max_iter: call.sizes[2],
+    };
+    let answer = model(
+        call.reads[0].numbers(),
+        call.sizes[0],
+        call.sizes[1],
+        call.reads[1].numbers(),
+        setup,
+        call.writes[0].numbers_mut(),
+        workspace.numbers_mut(),
+    );
+    match answer {
+        Ok(report) => {
+            call.report = [report.stop.code(), report.refits, report.kept];
+            0
+        }
+        Err(refusal) => refusal.number(),
+    }
+}
+
+/// The refusal's number, or the stop.
+fn label(call: &Call, answer: u64) -> String {
+    if answer != 0 {
+        return answer.to_string();
+    }
+    let stop = Stop::ALL
+        .into_iter()
+        .find(|stop| stop.code() == call.report[0]);
+    stop.map_or("0".into(), |stop| format!("0 {stop:?}"))
+}

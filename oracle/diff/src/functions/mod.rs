@@ -1,0 +1,32 @@
+//! The exports, a file a group.
+
+mod builders;
+mod fits;
+mod qr;
+mod scalars;
+mod square;
+
+use crate::call::Function;
+pub use fits::SIZE as FIT_SIZE;
+
+/// Every export.
+pub const ALL: [Function; 13] = [
+    scalars::SQRT,
+    scalars::ABS,
+    builders::JTJ,
+    builders::JTR,
+    square::CHOLESKY,
+    square::LU,
+    square::NORMAL_EQUATIONS,
+    qr::QR,
+    qr::LEAST_SQUARES,
+    fits::STRLSQ,
+    fits::STRLSQ_QR,
+    scalars::STRLSQ_WORKSPACE,
+    scalars::STRLSQ_QR_WORKSPACE,
+];
+
+/// The answer of a model that gives no report.
+fn number(answer: oracle::model::Answer) -> u64 {
+    answer.map_or_else(|refusal| refusal.number(), |()| 0)
+}

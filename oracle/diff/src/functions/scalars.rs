@@ -1,0 +1,101 @@
+//! Root, magnitude, and the lengths of workspaces: calls without lent slices.
+
+use crate::call::{Call, Function, number_label};
+use crate::sizes;
+use dapmotar::raw;
+use oracle::generate::floats;
+use oracle::model;
+use oracle::refusal::{MAX_COLS, MAX_ROWS};
+use oracle::rng::Rng;
+
+pub const SQRT: Function = Function {
+    name: "sqrt",
+    make: make_float,
+    library: |call| put(call, raw::dapmotar_sqrt(call.floats[0])),
+    model: |call| put(call, model::sqrt(call.floats[0])),
+    label: float_label,
+};
+
+pub const ABS: Function = Function {
+    name: "abs",
+    make: make_float,
+    library: |call| put(call, raw::dapmotar_abs(call.floats[0])),
+    model: |call| put(call, model::abs(call.floats[0])),
+    label: float_label,
+};
+
+pub const STRLSQ_WORKSPACE: Function = Function {
+    name: "strlsq_workspace",
+    make: make_sizes,
+    library: |call| raw::dapmotar_strlsq_workspace(call.sizes[0], call.sizes[1]) as u64,
+    model: |call| model::strlsq_workspace(call.sizes[0], call.sizes[1]) as u64,
+    label: length_label,
+};
+
+pub const STRLSQ_QR_WORKSPACE: Function = Function {
+    name: "strlsq_qr_workspace",
+    make: make_sizes,
+    library: |call| raw::dapmotar_strlsq_qr_workspace(call.sizes[0], call.sizes[1]) as u64,
+    model: |call| model::strlsq_qr_workspace(call.sizes[0], call.sizes[1]) as u64,
+    label: length_label,
+};
+
+/// The result stands in a slice of one, so that it is compared as numbers are.
+fn put(call: &mut Call, x: f64) -> u64 {
+    call.writes[0].numbers_mut()[0] = x;
+    0
+}
+
+fn make_float(rng: &mut Rng) -> Call {
+    let mut x = floats::any(rng);
+    if rng.once_in(2) {
+        x = x.abs();
+    }
+    let result = sizes::given(rng, "result", &[0.0]);
+    Call {
+        floats: vec![x],
+        writes: vec![result],
+        ..empty(vec![])
+    }
+}
+
+fn make_sizes(rng: &mut Rng) -> Call {
+    let size = |rng: &mut Rng, limit| {
+        if rng.once_in(2) {
+            rng.between(0, limit)
+        } else {
+            sizes::any(rng, limit)
+        }
+    };
+    empty(vec![size(rng, MAX_ROWS), size(rng, MAX_COLS)])
+}
+
+fn empty(sizes: Vec<usize>) -> Call {
+    Call {
+        sizes,
+        floats: vec![],
+        reads: vec![],
+        writes: vec![],
+        workspace: None,
+        report: [0; 3],
+    }
+}
+
+fn float_label(call: &Call, _: u64) -> String {
+    let x = call.floats[0];
+    let sign = if x.is_sign_negative() && !x.is_nan() {
+        "-"
+    } else {
+        ""
+    };
+    format!("{sign}{:?}", x.classify())
+}
+
+fn length_label(call: &Call, answer: u64) -> String {
+    let within = call.sizes[0] <= MAX_ROWS && call.sizes[1] <= MAX_COLS;
+    match (within, answer) {
+        (true, 0) => "none needed".into(),
+        (true, _) => "a length".into(),
+        (false, _) => number_label(call, answer) + ", beyond the limits",
+    }
+}

@@ -1,0 +1,127 @@
+//! Cholesky, LU and the normal equations.
+
+use super::number;
+use crate::call::{Call, Function, number_label};
+use crate::matrices;
+use crate::sizes::{Plan, given, junk};
+use crate::slice::Slice;
+use dapmotar::raw;
+use oracle::model;
+use oracle::refusal::MAX_COLS;
+use oracle::rng::Rng;
+
+pub const CHOLESKY: Function = Function {
+    name: "solve_spd_cholesky",
+    make: make_in_place,
+    library: |call| {
+        let (n, (a, b)) = (call.sizes[0], both(call));
+        unsafe { raw::dapmotar_solve_spd_cholesky(a.ptr(), a.len(), b.ptr(), b.len(), n) }
+    },
+    model: |call| {
+        let (n, (a, b)) = (call.sizes[0], both(call));
+        number(model::solve_spd_cholesky(
+            a.numbers_mut(),
+            b.numbers_mut(),
+            n,
+        ))
+    },
+    label: number_label,
+};
+
+pub const LU: Function = Function {
+    name: "solve_lu",
+    make: make_in_place,
+    library: |call| {
+        let (n, (a, b)) = (call.sizes[0], both(call));
+        unsafe { raw::dapmotar_solve_lu(a.ptr(), a.len(), b.ptr(), b.len(), n) }
+    },
+    model: |call| {
+        let (n, (a, b)) = (call.sizes[0], both(call));
+        number(model::solve_lu(a.numbers_mut(), b.numbers_mut(), n))
+    },
+    label: number_label,
+};
+
+pub const NORMAL_EQUATIONS: Function = Function {
+    name: "solve_normal_equations",
+    make: make_normal_equations,
+    library: library_normal_equations,
+    model: |call| {
+        let (workspace, _) = call.workspace.as_mut().expect("it has one");
+        number(model::solve_normal_equations(
+            call.reads[0].numbers(),
+            call.writes[0].numbers_mut(),
+            call.sizes[0],
+            workspace.numbers_mut(),
+        ))
+    },
+    label: number_label,
+};
+
+/// The matrix and the right-hand side, both written.
+fn both(call: &mut Call) -> (&mut Slice, &mut Slice) {
+    let [a, b] = call.writes.as_mut_slice() else {
+        unreachable!("two are written")
+    };
+    (a, b)
+}
+
+/// A matrix of n by n, or of another length, and a right-hand side.
+fn system(rng: &mut Rng, plan: Plan, n: usize) -> (Slice, Slice) {
+    let a_len = plan.length(rng, n.checked_mul(n));
+    let b_len = plan.length(rng, Some(n));
+    let a = if n <= MAX_COLS && a_len == n * n {
+        matrices::square(rng, n)
+    } else {
+        matrices::drawn(rng, a_len)
+    };
+    let b = matrices::drawn(rng, b_len);
+    (given(rng, "a", &a), given(rng, "b", &b))
+}
+
+fn make_in_place(rng: &mut Rng) -> Call {
+    let plan = Plan::new(rng);
+    let n = plan.size(rng, MAX_COLS);
+    let (a, b) = system(rng, plan, n);
+    Call {
+        sizes: vec![n],
+        floats: vec![],
+        reads: vec![],
+        writes: vec![a, b],
+        workspace: None,
+        report: [0; 3],
+    }
+}
+
+fn make_normal_equations(rng: &mut Rng) -> Call {
+    let plan = Plan::new(rng);
+    let n = plan.size(rng, MAX_COLS);
+    let (a, b) = system(rng, plan, n);
+    let needed = n.checked_mul(n);
+    let workspace_len = plan.workspace(rng, needed);
+    let workspace = junk(rng, "workspace", workspace_len);
+    Call {
+        sizes: vec![n],
+        floats: vec![],
+        reads: vec![a],
+        writes: vec![b],
+        workspace: Some((workspace, needed.unwrap_or(usize::MAX))),
+        report: [0; 3],
+    }
+}
+
+fn library_normal_equations(call: &mut Call) -> u64 {
+    let (a, b) = (&mut call.reads[0], &mut call.writes[0]);
+    let (workspace, _) = call.workspace.as_mut().expect("it has one");
+    unsafe {
+        raw::dapmotar_solve_normal_equations(
+            a.ptr(),
+            a.len(),
+            b.ptr(),
+            b.len(),
+            call.sizes[0],
+            workspace.ptr(),
+            workspace.len(),
+        )
+    }
+}

@@ -1,0 +1,182 @@
+//! Both fits restated over one loop, so that stop, refits and kept word can be told.
+//!
+//! The published functions give the coefficients only. `fit` runs them too and stops the program if a single
+//! bit differs, so a report stands only beside coefficients that are the published ones.
+
+use crate::bits::first_difference;
+use crate::linalg;
+use crate::problem::{Problem, Setup, Solver};
+use crate::symreg::strlsq::{strlsq, strlsq_qr};
+
+/// Why a fit ended, in code order.
+#[derive(Clone, Copy, Debug, PartialEq, Eq)]
+#[repr(u8)]
+pub enum Stop {
+    NoData = 0,
+    FirstRefused = 1,
+    Empty = 2,
+    RefitRefused = 3,
+    Settled = 4,
+    OutOfRounds = 5,
+}
+
+impl Stop {
+    pub const ALL: [Stop; 6] = [
+        Stop::NoData,
+        Stop::FirstRefused,
+        Stop::Empty,
+        Stop::RefitRefused,
+        Stop::Settled,
+        Stop::OutOfRounds,
+    ];
+
+    pub fn code(self) -> u64 {
+        self as u64
+    }
+}
+
+#[derive(Clone, Copy, Debug, PartialEq, Eq)]
+pub struct Report {
+    pub stop: Stop,
+    pub refits: u64,
+    pub kept: u64,
+}
+
+#[derive(Clone, Debug)]
+pub struct Fit {
+    pub report: Report,
+    pub coeffs: Vec<f64>,
+}
+
+/// The fit of a problem with exact lengths and at most 64 columns, held against the published function.
+pub fn fit(p: &Problem) -> Fit {
+    let fit = restated(p);
+    let expected = published(p);
+    if let Some(j) = first_difference(&fit.coeffs, &expected) {
+        panic!(
+            "the restated fit differs from the published one at term {j}: {:?} for {:?} in {p:?}",
+            fit.coeffs.get(j),
+            expected.get(j)
+        );
+    }
+    fit
+}
+
+/// The coefficients by the published function.
+pub fn published(p: &Problem) -> Vec<f64> {
+    let Setup {
+        threshold,
+        lambda,
+        max_iter,
+    } = p.setup;
+    let fit = match p.solver {
+        Solver::Normal => strlsq,
+        Solver::Qr => strlsq_qr,
+    };
+    fit(
+        &p.theta, p.rows, p.cols, &p.target, threshold, lambda, max_iter,
+    )
+}
+
+/// The fit by document 01's rule.
+fn restated(p: &Problem) -> Fit {
+    let (stop, refits, mut coeffs) = rounds(p);
+    for c in &mut coeffs {
+        if c.abs() < p.setup.threshold {
+            *c = 0.0;
+        }
+    }
+    let kept = support_of(&coeffs, p.setup.threshold);
+    Fit {
+        report: Report { stop, refits, kept },
+        coeffs,
+    }
+}
+
+/// The first solve and the rounds: the stop, the refits, and the coefficients before the last pass.
+fn rounds(p: &Problem) -> (Stop, u64, Vec<f64>) {
+    let zeros = vec![0.0; p.cols];
+    if p.rows == 0 || p.cols == 0 {
+        return (Stop::NoData, 0, zeros);
+    }
+    let all: Vec<usize> = (0..p.cols).collect();
+    let Some(mut coeffs) = solve(p, &all) else {
+        return (Stop::FirstRefused, 0, zeros);
+    };
+    let mut last_refitted = 0;
+    let mut refits = 0;
+    for _ in 0..p.setup.max_iter {
+        let support = support_of(&coeffs, p.setup.threshold);
+        if support == 0 {
+            return (Stop::Empty, refits, zeros);
+        }
+        if support == last_refitted {
+            return (Stop::Settled, refits, coeffs);
+        }
+        last_refitted = support;
+        refits += 1;
+        let terms = terms_of(support);
+        let Some(values) = solve(p, &terms) else {
+            return (Stop::RefitRefused, refits, zeros);
+        };
+        coeffs.fill(0.0);
+        for (col, &term_idx) in terms.iter().enumerate() {
+            coeffs[term_idx] = values[col];
+        }
+    }
+    (Stop::OutOfRounds, refits, coeffs)
+}
+
+/// Every term at or above the threshold in magnitude, one bit each; a NaN never is.
+fn support_of(coeffs: &[f64], threshold: f64) -> u64 {
+    let kept = |&j: &usize| coeffs[j].abs() >= threshold;
+    (0..coeffs.len())
+        .filter(kept)
+        .fold(0, |word, j| word | 1 << j)
+}
+
+/// The terms of a support, rising.
+fn terms_of(support: u64) -> Vec<usize> {
+    (0..64).filter(|j| support >> j & 1 == 1).collect()
+}
+
+/// The solve over some of theta's columns, or nothing where it refuses.
+fn solve(p: &Problem, terms: &[usize]) -> Option<Vec<f64>> {
+    match p.solver {
+        Solver::Normal => solve_normal(p, terms),
+        Solver::Qr => solve_qr(p, terms),
+    }
+}
+
+/// By the normal equations.
+fn solve_normal(p: &Problem, terms: &[usize]) -> Option<Vec<f64>> {
+    let c = terms.len();
+    let theta = columns(p, terms, 0);
+    let a = linalg::jtj(&theta, p.rows, c, p.setup.lambda);
+    let mut b = linalg::jtr(&theta, &p.target, p.rows, c);
+    linalg::solve_normal_equations(&a, &mut b, c).ok()?;
+    Some(b)
+}
+
+/// By least squares, with c more rows that hold the root of lambda on their diagonal, and c more zeros.
+fn solve_qr(p: &Problem, terms: &[usize]) -> Option<Vec<f64>> {
+    let c = terms.len();
+    let mut a = columns(p, terms, c);
+    for i in 0..c {
+        a[(p.rows + i) * c + i] = p.setup.lambda.sqrt();
+    }
+    let mut b = p.target.clone();
+    b.resize(p.rows + c, 0.0);
+    linalg::solve_least_squares(&a, &b, p.rows + c, c).ok()
+}
+
+/// The columns of some terms, in their order, with `more` rows of +0.0 after them.
+fn columns(p: &Problem, terms: &[usize], more: usize) -> Vec<f64> {
+    let mut part = vec![0.0; (p.rows + more) * terms.len()];
+    for row in 0..p.rows {
+        for (col, &term_idx) in terms.iter().enumerate() {
+            part[row * terms.len() + col] = p.at(row, term_idx);
+        }
+    }
+    part
+}

@@ -1,0 +1,103 @@
+//! Both fits and the workspaces that they need.
+
+use super::{Answer, clear, refuse_if};
+use crate::fit::{Report, fit};
+use crate::problem::{Problem, Setup, Solver};
+use crate::refusal::{MAX_COLS, MAX_ROUNDS, MAX_ROWS, Refusal};
+
+/// The numbers that `strlsq` needs, 0 beyond the limits.
+pub fn strlsq_workspace(n_rows: usize, n_cols: usize) -> usize {
+    workspace_of(Solver::Normal, n_rows, n_cols).unwrap_or(0)
+}
+
+/// The numbers that `strlsq_qr` needs, 0 beyond the limits.
+pub fn strlsq_qr_workspace(n_rows: usize, n_cols: usize) -> usize {
+    workspace_of(Solver::Qr, n_rows, n_cols).unwrap_or(0)
+}
+
+fn workspace_of(solver: Solver, r: usize, c: usize) -> Option<usize> {
+    limits(r, c).ok()?;
+    Some(match solver {
+        Solver::Normal => r * c + 2 * c * c + c,
+        Solver::Qr => 2 * (r + c) * c + 3 * (r + c) + 3 * c,
+    })
+}
+
+fn limits(n_rows: usize, n_cols: usize) -> Answer {
+    refuse_if(n_cols > MAX_COLS, Refusal::Columns)?;
+    refuse_if(n_rows > MAX_ROWS, Refusal::Rows)
+}
+
+pub fn strlsq(
+    theta: &[f64],
+    n_rows: usize,
+    n_cols: usize,
+    target: &[f64],
+    setup: Setup,
+    coeffs: &mut [f64],
+    workspace: &mut [f64],
+) -> Result<Report, Refusal> {
+    run(
+        Solver::Normal,
+        theta,
+        n_rows,
+        n_cols,
+        target,
+        setup,
+        coeffs,
+        workspace,
+    )
+}
+
+pub fn strlsq_qr(
+    theta: &[f64],
+    n_rows: usize,
+    n_cols: usize,
+    target: &[f64],
+    setup: Setup,
+    coeffs: &mut [f64],
+    workspace: &mut [f64],
+) -> Result<Report, Refusal> {
+    run(
+        Solver::Qr,
+        theta,
+        n_rows,
+        n_cols,
+        target,
+        setup,
+        coeffs,
+        workspace,
+    )
+}
+
+#[allow(clippy::too_many_arguments)]
+fn run(
+    solver: Solver,
+    theta: &[f64],
+    n_rows: usize,
+    n_cols: usize,
+    target: &[f64],
+    setup: Setup,
+    coeffs: &mut [f64],
+    workspace: &mut [f64],
+) -> Result<Report, Refusal> {
+    limits(n_rows, n_cols)?;
+    refuse_if(setup.max_iter > MAX_ROUNDS, Refusal::Rounds)?;
+    refuse_if(theta.len() != n_rows * n_cols, Refusal::Matrix)?;
+    refuse_if(target.len() != n_rows, Refusal::RightHandSide)?;
+    refuse_if(coeffs.len() != n_cols, Refusal::Output)?;
+    let needed = workspace_of(solver, n_rows, n_cols).expect("the limits were tested");
+    refuse_if(workspace.len() < needed, Refusal::Workspace)?;
+    let problem = Problem {
+        solver,
+        rows: n_rows,
+        cols: n_cols,
+        setup,
+        theta: theta.to_vec(),
+        target: target.to_vec(),
+    };
+    let fit = fit(&problem);
+    coeffs.copy_from_slice(&fit.coeffs);
+    clear(workspace, needed);
+    Ok(fit.report)
+}

@@ -1,0 +1,213 @@
+//! The numbers of document 01, held against the published Rust: a line each.
+
+use crate::bits::{first_difference, same};
+use crate::fit::{Report, Stop, fit};
+use crate::frames::respond;
+use crate::linalg::{qr, solve_lu, solve_spd_cholesky};
+use crate::model;
+use crate::problem::{Problem, Setup, Solver};
+use crate::refusal::Refusal;
+
+/// One number of the table.
+pub struct Line {
+    pub name: &'static str,
+    pub says: String,
+    pub holds: bool,
+}
+
+/// All of them, in document 01's order, then its frame and its sizes.
+pub fn lines() -> Vec<Line> {
+    let mut lines = roots();
+    lines.extend(fits());
+    lines.extend(solvers());
+    lines.push(exchange());
+    lines.extend(sizes());
+    lines
+}
+
+fn line(name: &'static str, says: impl Into<String>, holds: bool) -> Line {
+    Line {
+        name,
+        says: says.into(),
+        holds,
+    }
+}
+
+fn roots() -> Vec<Line> {
+    let root = |name, x: f64, bits: u64| {
+        let r = std::hint::black_box(x).sqrt();
+        line(
+            name,
+            format!("root of {x:e} is {:016x}", r.to_bits()),
+            r.to_bits() == bits,
+        )
+    };
+    vec![
+        root("R1", 4.0, 2.0_f64.to_bits()),
+        root("R2", 2.0, 0x3ff6_a09e_667f_3bcd),
+        root("R3", -0.0, (-0.0_f64).to_bits()),
+        root("R4", f64::from_bits(1), 0x1e60_0000_0000_0000),
+        root("R5", f64::MAX, 0x5fef_ffff_ffff_ffff),
+    ]
+}
+
+/// F1's problem, at another threshold and limit.
+pub fn f1(threshold: f64, max_iter: usize) -> Problem {
+    let setup = Setup {
+        threshold,
+        lambda: 0.0,
+        max_iter,
+    };
+    let mut p = Problem::zeros(Solver::Normal, 2, 2, setup);
+    p.theta = vec![1.0, 0.0, 0.0, 1.0];
+    p.target = vec![3.0, 0.25];
+    p
+}
+
+/// A problem of one row and one column.
+fn one(theta: f64, target: f64, lambda: f64, threshold: f64, max_iter: usize) -> Problem {
+    let mut p = Problem::zeros(
+        Solver::Normal,
+        1,
+        1,
+        Setup {
+            threshold,
+            lambda,
+            max_iter,
+        },
+    );
+    p.theta = vec![theta];
+    p.target = vec![target];
+    p
+}
+
+fn fits() -> Vec<Line> {
+    use Stop::*;
+    let case = |name, p: Problem, coeffs: &[f64], stop, refits, kept| {
+        let got = fit(&p);
+        let holds = got.report == Report { stop, refits, kept }
+            && first_difference(&got.coeffs, coeffs).is_none();
+        let r = got.report;
+        let says = format!(
+            "{:?}, {:?}, {} refits, word {:x}",
+            got.coeffs, r.stop, r.refits, r.kept
+        );
+        line(name, says, holds)
+    };
+    vec![
+        case("F1", f1(0.5, 10), &[3.0, 0.0], Settled, 1, 1),
+        case("F2", f1(0.5, 0), &[3.0, 0.0], OutOfRounds, 0, 1),
+        case("F3", f1(0.5, 1), &[3.0, 0.0], OutOfRounds, 1, 1),
+        case("F4", f1(4.0, 10), &[0.0, 0.0], Empty, 0, 0),
+        case("F5", one(0.0, 1.0, 0.0, 0.5, 1), &[0.0], FirstRefused, 0, 0),
+        case("F6", one(1.0, 0.5, 0.0, 0.5, 2), &[0.5], Settled, 1, 1),
+        case(
+            "F7",
+            one(0.0, 1.0, -1.0, 0.0, 0),
+            &[-0.0],
+            OutOfRounds,
+            0,
+            1,
+        ),
+        case(
+            "F8",
+            one(1.0, f64::NAN, 0.0, 0.5, 0),
+            &[f64::NAN],
+            OutOfRounds,
+            0,
+            0,
+        ),
+        case("F8", one(1.0, f64::NAN, 0.0, 0.5, 1), &[0.0], Empty, 0, 0),
+    ]
+}
+
+fn solvers() -> Vec<Line> {
+    let (mut a, mut b) = (vec![1.0, 2.0, -1.0, 3.0], vec![1.0, 4.0]);
+    let accepted = solve_lu(&mut a, &mut b, 2).is_ok();
+    let l1 = accepted
+        && first_difference(&b, &[-1.0, 1.0]).is_none()
+        && first_difference(&a, &[1.0, 2.0, -1.0, 5.0]).is_none();
+
+    let q = qr(&[-0.0, 1.0], 2, 1).expect("two rows and a column");
+    let q1 = first_difference(&q.data, &[-1.0, 1.0]).is_none() && same(q.betas[0], 1.0);
+
+    let cholesky = |x: f64| solve_spd_cholesky(&mut [x], &mut [1.0], 1).is_ok();
+    let lu = |x: f64| solve_lu(&mut [x], &mut [1.0], 1).is_ok();
+    let up = 1e-14_f64.next_up();
+    let down = 1e-15_f64.next_down();
+    vec![
+        line("L1", format!("x {b:?}, matrix {a:?}"), l1),
+        line("Q1", format!("data {:?}, beta {:?}", q.data, q.betas), q1),
+        line("C1", "Cholesky of 1e-14 is refused", !cholesky(1e-14)),
+        line("C1", format!("Cholesky of {up:e} passes"), cholesky(up)),
+        line("C2", "LU of 1e-15 is accepted", lu(1e-15)),
+        line("C2", format!("LU of {down:e} is refused"), !lu(down)),
+    ]
+}
+
+/// F1 as frames.
+fn exchange() -> Line {
+    let input = "01000202000a3fe00000000000000000000000000000\n\
+        40080000000000003ff00000000000000000000000000000\n\
+        3fd000000000000000000000000000003ff0000000000000\n";
+    let output = "0400010000000000000001\n4008000000000000\n0000000000000000\n";
+    line(
+        "F1",
+        "as frames, byte for byte",
+        respond(input.as_bytes()) == output.as_bytes(),
+    )
+}
+
+/// The size sentences, by the model of the calls.
+fn sizes() -> Vec<Line> {
+    let fit = |cols: usize, max_iter: usize, short: usize| {
+        let setup = Setup {
+            threshold: 0.5,
+            lambda: 1.0,
+            max_iter,
+        };
+        let mut p = Problem::zeros(Solver::Normal, 1, cols, setup);
+        p.theta.fill(1.0);
+        let needed = cols + 2 * cols * cols + cols;
+        let (mut coeffs, mut workspace) = (vec![1.0; cols], vec![1.0; needed - short]);
+        model::strlsq(
+            &p.theta,
+            1,
+            cols,
+            &p.target,
+            setup,
+            &mut coeffs,
+            &mut workspace,
+        )
+        .err()
+    };
+    vec![
+        line("size", "64 columns pass", fit(64, 1, 0).is_none()),
+        line(
+            "size",
+            "65 columns give 1",
+            fit(65, 1, 0) == Some(Refusal::Columns),
+        ),
+        line("size", "max_iter 1,000 passes", fit(1, 1000, 0).is_none()),
+        line(
+            "size",
+            "max_iter 1,001 gives 3",
+            fit(1, 1001, 0) == Some(Refusal::Rounds),
+        ),
+        line(
+            "size",
+            "a workspace one short gives 7",
+            fit(3, 1, 1) == Some(Refusal::Workspace),
+        ),
+    ]
+}
+
+#[cfg(test)]
+mod tests {
+    #[test]
+    fn every_number_holds() {
+        for line in super::lines() {
+            assert!(line.holds, "{}: {}", line.name, line.says);
+        }
+    }
+}

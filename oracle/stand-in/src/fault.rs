@@ -1,0 +1,170 @@
+//! The wilful faults, one at a time.
+
+use std::sync::atomic::{AtomicU8, Ordering};
+
+macro_rules! faults {
+    ($($fault:ident)*) => {
+        /// A fault of the stand-in.
+        #[derive(Clone, Copy, Debug, PartialEq, Eq)]
+        #[repr(u8)]
+        pub enum Fault { None, $($fault,)* }
+
+        impl Fault {
+            /// Every fault.
+            pub const ALL: &'static [Fault] = &[$(Fault::$fault,)*];
+        }
+    };
+}
+
+faults! {
+    // Sizes and refusals.
+    RowsBeforeColumns
+    LengthsBeforeLimits
+    RoundsAfterLengths
+    RightHandSideBeforeMatrix
+    OutputBeforeRightHandSide
+    FewRowsAfterWorkspace
+    FewRowsAccepted
+    ColumnLimitOneMore
+    RowLimitOneMore
+    RowLimitOneLess
+    QrRowLimitOfFits
+    RoundLimitOneMore
+    RoundLimitOneLess
+    LongerMatrixAccepted
+    BetasLengthIgnored
+    WorkspaceOneShortAccepted
+    WorkspaceMustBeExact
+    WorkspaceFormulaOneMore
+    WorkspaceFormulaBeyondLimits
+    // What slices hold afterwards.
+    WorkspaceNotCleared
+    WorkspaceNotClearedAfterRefusal
+    WorkspaceNotClearedWithoutData
+    WorkspaceNotClearedAtFirstRefused
+    WorkspaceClearedPastNeed
+    WorkspaceClearedToMinusZero
+    WorkspaceClearedWhenShort
+    OutputClearedWhenRefused
+    ReportWrittenWhenRefused
+    WrittenPastTheEnd
+    ReadOnlyMatrixWritten
+    JunkReadFromOutput
+    // Root and magnitude.
+    RootTruncated
+    RootOfMinusZero
+    RootOfNegatives
+    RootOfSubnormals
+    MagnitudeOfMinusZero
+    // Builders.
+    JtjFromMinusZero
+    JtjLambdaTwice
+    JtjLambdaFirst
+    JtjNotMirrored
+    JtrFromMinusZero
+    JtjFused
+    // Cholesky.
+    CholeskyNanRefused
+    CholeskyLessOnly
+    CholeskyNoScale
+    CholeskyNanInScale
+    CholeskyScaleSigned
+    CholeskyRefusedColumnWritten
+    CholeskyUpperMirrored
+    CholeskyRightHandSideLost
+    // LU.
+    PivotLastGreatest
+    PivotNanTaken
+    PivotNone
+    PivotLessOrEqual
+    SwapRightPartOnly
+    SwapWithoutRightHandSide
+    LuBackTestsDiagonal
+    LuOnOverwritten
+    LuFactorsNotKept
+    // QR.
+    QrShareFromZero
+    QtShareFromZero
+    QrMinusZeroNegative
+    QrSkipNan
+    QrSkipLessOrEqual
+    QrNoSkip
+    QrShareOtherOrder
+    QtShareOtherOrder
+    QrBetaOtherOrder
+    QrColumnItselfLeft
+    QrDividedByNorm
+    QtLeavesLast
+    BackLessOrEqual
+    BackNoTest
+    BackFromFirst
+    BackOutputTouched
+    // The fits.
+    LookStrict
+    LookKeepsNan
+    LastPassLessOrEqual
+    LastPassKeepsSign
+    LastPassMissing
+    ScatterByPlace
+    LastSupportNotKept
+    LastSupportStartsFull
+    RefusedRefitNotCounted
+    RefusedRefitKeepsValues
+    EmptyKeepsValues
+    OneRoundMore
+    OneRoundLess
+    SettledTestedFirst
+    StopsSwapped
+    KeptFromLastSupport
+    KeptNotBelowColumns
+    RefitsInvented
+    FitsOnce
+    LambdaNotRooted
+    LambdaOnlyAtFirst
+    OldValuesStay
+    RefusesAll
+    AlwaysZeros
+    WritesNothing
+    // The frames.
+    FrameLowDigitFirst
+    FrameRowsBeforeColumns
+    FrameRoundsBeforeRows
+    FrameLimitsBeforeHeader
+    FrameLastNewlineMissing
+    FrameNanOwnBits
+    FrameKeptShort
+    FrameUpperAccepted
+    FrameCrlfAccepted
+    FrameTailAccepted
+    FrameThirdSolver
+    FrameNoColumnsNoRows
+    FrameColumnLimit
+    FrameRowLimit
+    FrameRefusalDecimal
+}
+
+static CURRENT: AtomicU8 = AtomicU8::new(0);
+
+/// Take a fault on, and leave the one before.
+pub fn set(fault: Fault) {
+    CURRENT.store(fault as u8, Ordering::Relaxed);
+}
+
+/// Take on the fault that `DAPMOTAR_FAULT` names, none if it is not set.
+pub fn set_from_env() {
+    let Ok(name) = std::env::var("DAPMOTAR_FAULT") else {
+        return;
+    };
+    let named = Fault::ALL.iter().find(|fault| format!("{fault:?}") == name);
+    set(*named.unwrap_or_else(|| panic!("no fault {name}; there are {:?}", Fault::ALL)));
+}
+
+/// Is this the fault taken on?
+pub fn is(fault: Fault) -> bool {
+    CURRENT.load(Ordering::Relaxed) == fault as u8
+}
+
+/// The second value under the fault, else the first.
+pub fn or<T>(right: T, fault: Fault, wrong: T) -> T {
+    if is(fault) { wrong } else { right }
+}

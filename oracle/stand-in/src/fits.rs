@@ -1,0 +1,178 @@
+//! Both fits over one loop.
+
+use crate::builders::{jtj, jtr};
+use crate::fault::{self, Fault};
+use crate::qr::least_squares;
+use crate::root::{abs, sqrt};
+use crate::square::normal_equations;
+
+/// What is fitted.
+#[derive(Clone, Copy)]
+pub struct Fit<'a> {
+    pub by_qr: bool,
+    pub theta: &'a [f64],
+    pub rows: usize,
+    pub cols: usize,
+    pub target: &'a [f64],
+    pub threshold: f64,
+    pub lambda: f64,
+    pub max_iter: usize,
+}
+
+/// A term's bit; none past 64.
+fn bit(j: usize) -> u64 {
+    1u64.checked_shl(j as u32).unwrap_or(0)
+}
+
+/// The workspace that a fit needs, sizes not looked at.
+pub fn workspace(by_qr: bool, r: usize, c: usize) -> usize {
+    let twice = |x: usize| x.wrapping_mul(2);
+    let thrice = |x: usize| x.wrapping_mul(3);
+    let rows = r.wrapping_add(c);
+    if by_qr {
+        twice(rows.wrapping_mul(c))
+            .wrapping_add(thrice(rows))
+            .wrapping_add(thrice(c))
+    } else {
+        r.wrapping_mul(c)
+            .wrapping_add(twice(c.wrapping_mul(c)))
+            .wrapping_add(c)
+    }
+}
+
+impl Fit<'_> {
+    /// The coefficients into their slice, and the report: stop, refits, kept word.
+    pub fn run(&self, coeffs: &mut [f64]) -> [u64; 3] {
+        if !fault::is(Fault::OldValuesStay) {
+            coeffs.fill(0.0);
+        }
+        let mut last = 0;
+        let (mut stop, mut refits) = self.rounds(coeffs, &mut last);
+        for c in coeffs.iter_mut() {
+            let small = abs(*c) < self.threshold
+                || abs(*c) == self.threshold && fault::is(Fault::LastPassLessOrEqual);
+            if small && !fault::is(Fault::LastPassMissing) {
+                *c = if fault::is(Fault::LastPassKeepsSign) {
+                    *c * 0.0
+                } else {
+                    0.0
+                };
+            }
+        }
+        let mut kept = self.support(coeffs);
+        if fault::is(Fault::KeptFromLastSupport) && stop == 4 {
+            kept = last;
+        }
+        if fault::is(Fault::KeptFromLastSupport) && stop == 5 && refits > 0 {
+            kept = last;
+        }
+        if fault::is(Fault::KeptNotBelowColumns) && self.threshold <= 0.0 && self.cols < 64 {
+            kept |= u64::MAX << self.cols;
+        }
+        if fault::is(Fault::StopsSwapped) {
+            stop = [0, 1, 3, 2, 4, 5][stop as usize];
+        }
+        if fault::is(Fault::RefitsInvented) {
+            refits = (self.max_iter as u64).min(1);
+        }
+        [stop, refits, kept]
+    }
+
+    /// The first solve and the rounds: stop and refits.
+    fn rounds(&self, coeffs: &mut [f64], last: &mut u64) -> (u64, u64) {
+        if self.rows == 0 || self.cols == 0 {
+            return (0, 0);
+        }
+        let all: Vec<usize> = (0..self.cols).collect();
+        let Some(values) = self.solve(&all, false) else {
+            return (1, 0);
+        };
+        coeffs.copy_from_slice(&values);
+        let mut refits = 0;
+        if fault::is(Fault::LastSupportStartsFull) {
+            *last = all.iter().fold(0, |w, &j| w | bit(j));
+        }
+        let rounds = if fault::is(Fault::OneRoundMore) {
+            self.max_iter + 1
+        } else {
+            self.max_iter
+        };
+        let rounds = fault::or(rounds, Fault::OneRoundLess, rounds.saturating_sub(1));
+        for _ in 0..rounds {
+            let support = self.support(coeffs);
+            if support == 0 && !(fault::is(Fault::SettledTestedFirst) && *last == 0) {
+                if !fault::is(Fault::EmptyKeepsValues) {
+                    coeffs.fill(0.0);
+                }
+                return (2, refits);
+            }
+            if support == *last {
+                return (4, refits);
+            }
+            if !(fault::is(Fault::LastSupportNotKept) && *last != 0) {
+                *last = support;
+            }
+            refits += 1;
+            if fault::is(Fault::FitsOnce) {
+                continue;
+            }
+            let terms: Vec<usize> = (0..self.cols).filter(|&j| support & bit(j) != 0).collect();
+            let Some(values) = self.solve(&terms, true) else {
+                if !fault::is(Fault::RefusedRefitKeepsValues) {
+                    coeffs.fill(0.0);
+                }
+                return (
+                    3,
+                    fault::or(refits, Fault::RefusedRefitNotCounted, refits - 1),
+                );
+            };
+            coeffs.fill(0.0);
+            for (col, &term_idx) in terms.iter().enumerate() {
+                coeffs[fault::or(term_idx, Fault::ScatterByPlace, col)] = values[col];
+            }
+        }
+        (5, refits)
+    }
+
+    /// The terms at or above the threshold.
+    fn support(&self, coeffs: &[f64]) -> u64 {
+        let kept = |j: &usize| {
+            let c = abs(coeffs[*j]);
+            if fault::is(Fault::LookKeepsNan) {
+                !(c < self.threshold)
+            } else if fault::is(Fault::LookStrict) {
+                c > self.threshold
+            } else {
+                c >= self.threshold
+            }
+        };
+        (0..self.cols).filter(kept).fold(0, |w, j| w | bit(j))
+    }
+
+    /// The solve over some columns.
+    fn solve(&self, terms: &[usize], again: bool) -> Option<Vec<f64>> {
+        let lambda = if again && fault::is(Fault::LambdaOnlyAtFirst) {
+            0.0
+        } else {
+            self.lambda
+        };
+        let (r, c) = (self.rows, terms.len());
+        let mut part = Vec::with_capacity((r + c) * c);
+        for row in 0..r {
+            part.extend(terms.iter().map(|j| self.theta[row * self.cols + j]));
+        }
+        if !self.by_qr {
+            let (mut a, mut b) = (vec![0.0; c * c], vec![0.0; c]);
+            jtj(&part, r, c, lambda, &mut a);
+            jtr(&part, self.target, r, c, &mut b);
+            return (normal_equations(&a, &mut b, c) == 0).then_some(b);
+        }
+        let root = fault::or(sqrt(lambda), Fault::LambdaNotRooted, lambda);
+        for i in 0..c {
+            part.extend((0..c).map(|j| if i == j { root } else { 0.0 }));
+        }
+        let mut b = self.target.to_vec();
+        b.resize(r + c, 0.0);
+        least_squares(&part, &b, r + c, c)
+    }
+}

@@ -1,0 +1,154 @@
+//! The bench program's exchange.
+
+use crate::fault::{self, Fault};
+use crate::fits::Fit;
+
+pub fn respond(input: &[u8]) -> Vec<u8> {
+    match problem(input) {
+        Ok(problem) => problem.answer().into_bytes(),
+        Err(number) if fault::is(Fault::FrameRefusalDecimal) => {
+            format!("ff{number:02}\n").into_bytes()
+        }
+        Err(number) => format!("ff{number:02x}\n").into_bytes(),
+    }
+}
+
+/// A header's numbers and the rows.
+struct Problem {
+    by_qr: bool,
+    rows: usize,
+    cols: usize,
+    max_iter: usize,
+    threshold: f64,
+    lambda: f64,
+    theta: Vec<f64>,
+    target: Vec<f64>,
+}
+
+impl Problem {
+    fn answer(&self) -> String {
+        let mut coeffs = vec![0.0; self.cols];
+        let fit = Fit {
+            by_qr: self.by_qr,
+            theta: &self.theta,
+            rows: self.rows,
+            cols: self.cols,
+            target: &self.target,
+            threshold: self.threshold,
+            lambda: self.lambda,
+            max_iter: self.max_iter,
+        };
+        let [stop, refits, kept] = fit.run(&mut coeffs);
+        let mut text = if fault::is(Fault::FrameKeptShort) {
+            format!("{stop:02x}{refits:04x}{kept:x}\n")
+        } else {
+            format!("{stop:02x}{refits:04x}{kept:016x}\n")
+        };
+        for c in coeffs {
+            let one = if fault::is(Fault::FrameNanOwnBits) {
+                c.to_bits()
+            } else {
+                0x7ff8 << 48
+            };
+            let bits = if c.is_nan() { one } else { c.to_bits() };
+            text += &format!("{bits:016x}\n");
+        }
+        text
+    }
+}
+
+/// The problem in an input, or the refusal's number.
+fn problem(input: &[u8]) -> Result<Problem, u64> {
+    let mut lines = Lines(input);
+    let header = lines.take(44);
+    if fault::is(Fault::FrameLimitsBeforeHeader)
+        && header.is_none()
+        && input.get(6..8) == Some(b"ff")
+    {
+        return Err(1);
+    }
+    let header = header.ok_or(11u64)?;
+    let code = number(&header[..2]);
+    if code != 1 && code != 2 && !(code == 3 && fault::is(Fault::FrameThirdSolver)) {
+        return Err(11);
+    }
+    let rows = number(&header[2..6]) as usize;
+    let cols = number(&header[6..8]) as usize;
+    let max_iter = number(&header[8..12]) as usize;
+    let limits = [
+        (1, cols > fault::or(16, Fault::FrameColumnLimit, 17)),
+        (2, rows > fault::or(128, Fault::FrameRowLimit, 4096)),
+        (3, max_iter > 1000),
+    ];
+    let order = if fault::is(Fault::FrameRowsBeforeColumns) {
+        [1, 0, 2]
+    } else if fault::is(Fault::FrameRoundsBeforeRows) {
+        [0, 2, 1]
+    } else {
+        [0, 1, 2]
+    };
+    for i in order {
+        if limits[i].1 {
+            return Err(limits[i].0);
+        }
+    }
+    let (mut theta, mut target) = (Vec::new(), Vec::new());
+    for _ in 0..rows {
+        if cols == 0 && fault::is(Fault::FrameNoColumnsNoRows) {
+            target.push(0.0);
+            continue;
+        }
+        let row = lines.take(16 * (1 + cols)).ok_or(11u64)?;
+        let numbers: Vec<f64> = row.chunks(16).map(|d| f64::from_bits(number(d))).collect();
+        target.push(numbers[0]);
+        theta.extend(&numbers[1..]);
+    }
+    if !lines.0.is_empty() && !fault::is(Fault::FrameTailAccepted) {
+        return Err(11);
+    }
+    Ok(Problem {
+        by_qr: code == 2,
+        rows,
+        cols,
+        max_iter,
+        threshold: f64::from_bits(number(&header[12..28])),
+        lambda: f64::from_bits(number(&header[28..44])),
+        theta,
+        target,
+    })
+}
+
+/// What is left of an input.
+struct Lines<'a>(&'a [u8]);
+
+impl<'a> Lines<'a> {
+    /// The next frame's digits, if it has so many and its newline.
+    fn take(&mut self, digits: usize) -> Option<&'a [u8]> {
+        let line = self.0.get(..digits)?;
+        let hex = |b: &u8| {
+            matches!(b, b'0'..=b'9' | b'a'..=b'f')
+                || matches!(b, b'A'..=b'F') && fault::is(Fault::FrameUpperAccepted)
+        };
+        if !line.iter().all(hex) {
+            return None;
+        }
+        let mut rest = &self.0[digits..];
+        if fault::is(Fault::FrameCrlfAccepted) && rest.first() == Some(&b'\r') {
+            rest = &rest[1..];
+        }
+        if rest.is_empty() && fault::is(Fault::FrameLastNewlineMissing) {
+            self.0 = rest;
+            return Some(line);
+        }
+        self.0 = rest.strip_prefix(b"\n")?;
+        Some(line)
+    }
+}
+
+fn number(digits: &[u8]) -> u64 {
+    let value = |b: u8| (b as char).to_digit(16).map_or(0, u64::from);
+    if fault::is(Fault::FrameLowDigitFirst) {
+        return digits.iter().rev().fold(0, |n, &b| n << 4 | value(b));
+    }
+    digits.iter().fold(0, |n, &b| n << 4 | value(b))
+}
