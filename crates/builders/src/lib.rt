@@ -1,1 +1,2 @@
 // The sums of the normal equations.
+pub mod inner;
