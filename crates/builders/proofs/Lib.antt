@@ -2,3 +2,4 @@
 pub mod Places
 pub mod Rows
 pub mod Damping
+pub mod Full
