@@ -1,13 +1,13 @@
 -- The columns of a matrix as the full support's columns, and what a refused call answers and leaves. Assumes nothing.
 use mathlib.Core.Path.{_≡_, refl, ap, _∙_}
 use mathlib.Core.List.{List}
-use Prim.Native.Nat.{ℕ, _*_, _^_, _≤_, _<_}
+use Prim.Native.Nat.{ℕ, _*_, _≤_}
 use native.Mathlib.Omega.{arith}
 use lib.Count.{ones}
 use lib.ListN.{length}
 use lib.Pow.{pow-pos}
 use lib.Ieee.{Float}
-use Rattle.steps.specs.Num.{Entry, at, cell}
+use Rattle.steps.specs.Num.{Entry}
 use Rattle.steps.specs.Table.{tab-cong, table-cong}
 use Rattle.support.specs.Word.{full}
 use Rattle.support.specs.SupportLaws.{full-is}

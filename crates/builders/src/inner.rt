@@ -1,7 +1,7 @@
 // Sums over the columns of a support, from theta itself. Each function may require what its caller tested.
 ghost use mathlib.Core.Path.{_≡_};
 ghost use mathlib.Core.Bool.{true};
-ghost use Prim.Native.Nat.{ℕ, _+_, _*_, _<_};
+ghost use Prim.Native.Nat.{_+_, _*_, _<_};
 ghost use lib.Count.{ones};
 ghost use lib.ListN.{length, set};
 ghost use Rattle.steps.specs.Num.{at, cell as cell-of};
@@ -32,11 +32,11 @@ fn target_sum(theta: &[f64], target: &[f64], n_rows: usize, n_cols: usize, p: Te
     requires { ⌜ (length (now theta) ≡ «n_rows» * «n_cols») × (length (now target) ≡ «n_rows») × (p .0 < «n_cols») ⌝ }
     ensures { λ r. ⌜ r ≡ moment (cell-of «n_cols» (now (theta .entry))) (at (now (target .entry))) «n_rows» (p .0) ⌝ }
 {
-    let mut sum = 0.0;
+    let mut total = 0.0;
     for i in 0..n_rows {
-        sum = sum + cell(theta, n_cols, i, p.0) * target[i];
+        total = total + cell(theta, n_cols, i, p.0) * target[i];
     }
-    sum
+    total
 }
 
 // One sum goes to both (p,q) and (q,p) of a matrix of k columns.

@@ -1,5 +1,5 @@
 -- `jtj` meets its contract: the first refusal that applies, else `jtj_of` at the full support.
-use mathlib.Core.Path.{_≡_, _∙_}
+use mathlib.Core.Path.{_∙_}
 use native.Mathlib.Nat.{mul-le-mul}
 use native.Mathlib.Omega.{arith}
 use borrow.Author.Needs.{needs}

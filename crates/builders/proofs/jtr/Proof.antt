@@ -1,5 +1,5 @@
 -- `jtr` meets its contract: the first refusal that applies, else `jtr_of` at the full support.
-use mathlib.Core.Path.{_≡_, sym, _∙_}
+use mathlib.Core.Path.{sym, _∙_}
 use native.Mathlib.Nat.{mul-le-mul}
 use native.Mathlib.Omega.{arith}
 use borrow.Author.Needs.{needs}

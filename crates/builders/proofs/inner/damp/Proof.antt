@@ -1,5 +1,5 @@
 -- `damp` meets its contract. The loop's invariant: lambda is added to the diagonal numbers passed, all else is as it was.
-use Prim.Native.Nat.{ℕ, _+_, _-_, _*_, _≤_}
+use Prim.Native.Nat.{_+_, _-_, _*_, _≤_}
 use native.Mathlib.Omega.{arith}
 use lib.Arith.{digits-lt}
 use denote.Ref.{now}

@@ -1,16 +1,15 @@
 -- `jtr_of` meets its contract. The loop's invariant: the places of the terms passed have their sums.
-use mathlib.Core.Path.{_≡_, refl, sym, ap, _∙_}
+use mathlib.Core.Path.{_≡_, refl, sym, _∙_}
 use mathlib.Core.Logic.{⊎-elim}
-use Prim.Native.Nat.{ℕ, _+_, _-_, _*_, _≤_, _<_}
+use Prim.Native.Nat.{_-_, _≤_, _<_}
 use native.Mathlib.Omega.{arith}
-use lib.Count.{ones}
 use lib.ListN.{length, length-set}
 use denote.Ref.{now}
 use Rattle.steps.specs.Num.{at, cell}
 use Rattle.steps.specs.Table.{filled, filled-none, filled-more, filled-end}
 use Rattle.support.specs.Word.{place}
 use Rattle.builders.specs.Products.{moment, columns, jtr-column}
-use Rattle.builders.proofs.Places.{place-none, place-take, place-skip, place-all, place-below, term-below, moment-at}
+use Rattle.builders.proofs.Places.{place-none, place-take, place-skip, place-all, place-below, moment-at}
 use Rattle.builders.proofs.inner.jtr_of.Statement.{statement}
 use Rattle.builders.proofs.inner.jtr_of.Tie as tie
 

@@ -1,7 +1,7 @@
 -- `pair_row` meets its contract. The loop's invariant: row and column of t's place have the pair sums of the terms passed.
-use mathlib.Core.Path.{_≡_, sym, _∙_}
+use mathlib.Core.Path.{sym, _∙_}
 use mathlib.Core.Logic.{⊎-elim}
-use Prim.Native.Nat.{ℕ, _-_, _≤_}
+use Prim.Native.Nat.{_-_, _≤_}
 use native.Mathlib.Omega.{arith}
 use lib.Count.{ones}
 use Rattle.steps.specs.Num.{cell}

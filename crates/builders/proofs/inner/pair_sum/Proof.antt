@@ -1,9 +1,8 @@
 -- `pair_sum` meets its contract. The loop's invariant: the sum is that of the rows passed.
-use mathlib.Core.Path.{_≡_, sym, _∙_, ap₂}
-use Prim.Native.Nat.{ℕ, _-_, _≤_, _<_}
+use mathlib.Core.Path.{_≡_, sym, ap₂}
+use Prim.Native.Nat.{_-_, _≤_}
 use native.Mathlib.Omega.{arith}
 use lib.Arith.{digits-lt}
-use lib.Ieee.{Float}
 use Rattle.steps.specs.Num.{times, +zero, cell}
 use Rattle.steps.specs.Sums.{sum-none, sum-more, sum-end}
 use Rattle.builders.specs.Products.{gram}
