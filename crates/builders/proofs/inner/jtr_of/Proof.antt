@@ -32,7 +32,7 @@ place-requires c κs = tt
 target-sum-requires : tie.Need-target-sum-requires Inv-loop μ-loop
 target-sum-requires c κs =
     let start = c .before .before .before .before .before .before .before .before in
-    (start .pre .0 .matrix, start .pre .1, c .before .before .before .loop-test .taken)
+    (start .pre .0 .matrix, start .pre .1, omega arith)
 
 -- the place of a term is one of the output
 in-out : (c : tie.After-place Inv-loop μ-loop) → let turn = c .before .before .before .before .loop in c .place .result .0 < length (turn .out)
