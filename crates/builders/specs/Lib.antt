@@ -3,3 +3,4 @@ pub mod Products
 pub mod ProductLaws
 pub mod Calls
 pub mod Unique
+pub mod Inner

@@ -1,6 +1,6 @@
 -- jtj and jtr, entry by entry, by document 01's sentences. A matrix that is only read is a way to find its entries. Assumes nothing.
 use Prim.Native.Nat.{ℕ}
-use mathlib.Core.Bool.{Bool, cond}
+use mathlib.Core.Bool.{cond}
 use mathlib.Core.List.{List}
 use lib.Dec.{eqb}
 use lib.Ieee.{Float}
