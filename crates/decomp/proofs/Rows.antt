@@ -1,15 +1,14 @@
 -- The matrix after a column's step, row by row. Assumes nothing.
 use mathlib.Core.Path.{_≡_, refl, sym, ap, _∙_, subst}
 use mathlib.Core.Logic.{_⊎_, inl, inr, ⊎-elim}
-use mathlib.Core.Bool.{Bool, true, false, cond}
 use mathlib.Core.List.{List}
 use Prim.Native.Nat.{ℕ, _+_, _*_, _≤_, _<_}
 use native.Mathlib.Nat.{eq-or-lt-of-le}
 use native.Mathlib.Omega.{arith}
 use borrow.Author.Tests.{lt-ltb, le-ltb, le-leb, lt-leb, eq-eqb, ne-eqb}
 use lib.Arith.{digits-lt}
-use lib.ListN.{length, set, length-set}
-use lib.Seq.{getD-set-same, getD-set-other}
+use lib.ListN.{length, set, length-set, take}
+use lib.Seq.{getD-set-same, getD-set-other, getD-take}
 use lib.Ieee.{Float, nan}
 use Rattle.steps.specs.Num.{less, times, over, at, Entry, cell}
 use Rattle.steps.specs.Cond.{lt-or-ge}
@@ -25,6 +24,11 @@ led-same x e j = simp (eq-eqb j j refl)
 pub led-below : (x : Float) (e : Entry) (j i : ℕ) → j < i → led x e j i ≡ e i j
 unfolding led
 led-below x e j i h = simp (ne-eqb i j (λ q. omega arith))
+
+-- read in a slice that begins with the matrix
+pub led-take : (x : Float) (n k j i : ℕ) (s : List Float) → i * n + j < k → led x (cell n s) j i ≡ led x (cell n (take k s)) j i
+unfolding led
+led-take x n k j i s h = sym (rw (getD-take k s (i * n + j) nan h))
 
 -- the entries after the step
 module _ (j : ℕ) (x : Float) (t : ℕ → Float) (e : Entry) where
@@ -106,8 +110,8 @@ module _ (m n j : ℕ) (x : Float) (t l : List Float) (size : length l ≡ m * n
       (lt-or-ge c j))
       (λ r c d h. w .rest (r * n + c) (λ c' a b q. apart n r j c c' d h b q))
 
-  -- the step of a row below it: column j is read first, and stored last
-  module _ (i : ℕ) (l₀ l₁ : List Float) (low : j < i) (high : i < m) (w : Turned i l₀) (u : Wrote (λ c. i * n + c) (j + 1) n (λ c. less (at l₀ (i * n + c)) (times (at t c) (at l₀ (i * n + j)))) l₀ l₁) where
+  -- the step of a row below it: v is read from column j first, and v / x stored there last
+  module _ (i : ℕ) (v : Float) (l₀ l₁ : List Float) (low : j < i) (high : i < m) (w : Turned i l₀) (lead : v ≡ cell n l₀ i j) (u : Wrote (λ c. i * n + c) (j + 1) n (λ c. less (at l₀ (i * n + c)) (times (at t c) v)) l₀ l₁) where
     abbrev e : Entry
     e = cell n l
 
@@ -115,7 +119,7 @@ module _ (m n j : ℕ) (x : Float) (t l : List Float) (size : length l ≡ m * n
     p = i * n + j
 
     abbrev y : Float
-    y = over (at l₀ p) x
+    y = over v x
 
     same : (c : ℕ) → c < n → cell n l₀ i c ≡ e i c
     same c h = w .old i c (omega arith) high h
@@ -126,23 +130,24 @@ module _ (m n j : ℕ) (x : Float) (t l : List Float) (size : length l ≡ m * n
     stored : cell n (set l₁ p y) i j ≡ New j x (at t) e i j
     stored =
         let inside : p < length l₁ = omega (arith, digits-lt high wide, size, u .long, w .long) in
-        getD-set-same l₁ p y nan inside ∙ ap (λ (z : Float). over z x) (same j wide) ∙ sym (new-stored j x (at t) e i low)
+        getD-set-same l₁ p y nan inside ∙ ap (λ (z : Float). over z x) (lead ∙ same j wide) ∙ sym (new-stored j x (at t) e i low)
 
     right : (c : ℕ) → c < n → j < c → cell n (set l₁ p y) i c ≡ New j x (at t) e i c
     right c h q =
         getD-set-other l₁ p (i * n + c) y nan (λ z. omega arith) ∙ u .done c (omega arith) h
-        ∙ ap (λ (z : Float). less z (times (at t c) (at l₀ p))) (same c h)
-        ∙ ap (λ (z : Float). less (e i c) (times (at t c) z)) (same j wide)
+        ∙ ap (λ (z : Float). less z (times (at t c) v)) (same c h)
+        ∙ ap (λ (z : Float). less (e i c) (times (at t c) z)) (lead ∙ same j wide)
         ∙ sym (new-right j x (at t) e i c low q)
 
-    pub turned-row : Turned (i + 1) (set l₁ p y)
-    turned-row =
-        rows-more m n (New j x (at t) e) l i l₀ (set l₁ p y) w (length-set l₁ p y ∙ u .long)
+    pub turned-row : (l₂ : List Float) → l₂ ≡ set l₁ p y → Turned (i + 1) l₂
+    turned-row l₂ is =
+        rw is
+        (rows-more m n (New j x (at t) e) l i l₀ (set l₁ p y) w (length-set l₁ p y ∙ u .long)
         (λ c h. ⊎-elim
-        (left c h)
-        (λ k. ⊎-elim (λ q. subst (λ (z : ℕ). cell n (set l₁ p y) i z ≡ New j x (at t) e i z) q stored) (right c h) (eq-or-lt-of-le k))
-        (lt-or-ge c j))
-        (λ r c d h. getD-set-other l₁ p (r * n + c) y nan (λ q. apart n r i c j d h wide q) ∙ u .rest (r * n + c) (λ c' a b q. apart n r i c c' d h b q))
+            (left c h)
+            (λ k. ⊎-elim (λ q. subst (λ (z : ℕ). cell n (set l₁ p y) i z ≡ New j x (at t) e i z) q stored) (right c h) (eq-or-lt-of-le k))
+            (lt-or-ge c j))
+        (λ r c d h. getD-set-other l₁ p (r * n + c) y nan (λ q. apart n r i c j d h wide q) ∙ u .rest (r * n + c) (λ c' a b q. apart n r i c c' d h b q)))
 
   pub turned-end : (l' : List Float) → Turned m l' → l' ≡ reflect m n j x (at t) l
   unfolding reflect
