@@ -1,2 +1,3 @@
 -- What the proofs share. Assumes nothing.
-pub mod Rows
+mod Rows
+mod Column
