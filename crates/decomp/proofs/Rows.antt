@@ -144,9 +144,9 @@ module _ (m n j : ℕ) (x : Float) (t l : List Float) (size : length l ≡ m * n
         rw is
         (rows-more m n (New j x (at t) e) l i l₀ (set l₁ p y) w (length-set l₁ p y ∙ u .long)
         (λ c h. ⊎-elim
-            (left c h)
-            (λ k. ⊎-elim (λ q. subst (λ (z : ℕ). cell n (set l₁ p y) i z ≡ New j x (at t) e i z) q stored) (right c h) (eq-or-lt-of-le k))
-            (lt-or-ge c j))
+        (left c h)
+        (λ k. ⊎-elim (λ q. subst (λ (z : ℕ). cell n (set l₁ p y) i z ≡ New j x (at t) e i z) q stored) (right c h) (eq-or-lt-of-le k))
+        (lt-or-ge c j))
         (λ r c d h. getD-set-other l₁ p (r * n + c) y nan (λ q. apart n r i c j d h wide q) ∙ u .rest (r * n + c) (λ c' a b q. apart n r i c c' d h b q)))
 
   pub turned-end : (l' : List Float) → Turned m l' → l' ≡ reflect m n j x (at t) l

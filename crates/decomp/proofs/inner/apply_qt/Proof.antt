@@ -55,10 +55,12 @@ loop-again c =
     let a = take k (now (args .s)) in
     let b = drop k (now (args .s)) in
     let len : length a ≡ k = length-take-le k (now (args .s)) (omega (arith, start .pre .0)) in
-    let turned = c .before .before .turn-column in
-    (omega (arith, test), turned .kept .0 ∙ now-at .inv .1,
-    seen a _ (now-at .s) k len (now-at .inv .2) (λ x y. turn (args .m) (args .n) x (at (now (args .betas)) (now-at .j)) (now-at .j) y) (turned .ensures)
-    ∙ ap (λ (z : List Float). a ++ z) (loop-more 0 (now-at .j) (λ j. turn (args .m) (args .n) a (at (now (args .betas)) j) j) b (omega arith) refl refl))
+    let turned = c .before .before .turn-column in (
+      omega (arith, test),
+      turned .kept .0 ∙ now-at .inv .1,
+      seen a _ (now-at .s) k len (now-at .inv .2) (λ x y. turn (args .m) (args .n) x (at (now (args .betas)) (now-at .j)) (now-at .j) y) (turned .ensures)
+          ∙ ap (λ (z : List Float). a ++ z) (loop-more 0 (now-at .j) (λ j. turn (args .m) (args .n) a (at (now (args .betas)) j) j) b (omega arith) refl refl),
+    )
 
 same-length : tie.Need-same-length Inv-loop μ-loop
 same-length c = c .before .loop .inv .1

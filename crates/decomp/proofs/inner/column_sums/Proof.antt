@@ -54,11 +54,14 @@ loop-again c =
     let args = test .before .before .before .before .args in
     let led = c .before .before .before .before .led-at .ensures in
     let row = c .before .before .add-row in
-    let term : (k : ℕ) → Float = λ k. cell (args .n) (now (args .a)) (turn .i) k in
-    (omega (arith, turn), omega (arith, test), row .kept .0 ∙ turn .inv .2,
-    record {
-      each = λ k h h'. row .ensures .done k h h' ∙ sum-more _ _ (turn .i) _ (turn .inv .0) (turn .inv .3 .each k h h') (ap (λ (z : Float). times z (term k)) led);
-    })
+    let term : (k : ℕ) → Float = λ k. cell (args .n) (now (args .a)) (turn .i) k in (
+      omega (arith, turn),
+      omega (arith, test),
+      row .kept .0 ∙ turn .inv .2,
+      record {
+        each = λ k h h'. row .ensures .done k h h' ∙ sum-more _ _ (turn .i) _ (turn .inv .0) (turn .inv .3 .each k h h') (ap (λ (z : Float). times z (term k)) led);
+      },
+    )
 
 same-length : tie.Need-same-length Inv-loop μ-loop
 same-length c = c .before .loop .inv .2

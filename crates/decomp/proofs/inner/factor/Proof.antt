@@ -56,10 +56,13 @@ loop-again c =
     let args = start .args in
     let a = now (args .a) in
     let made = c .before .before .qr-column in
-    let room : turn .j < length (now (args .b)) = omega (arith, test .loop-test .taken, start .pre .1) in
-    (omega (arith, test .loop-test .taken), made .kept .0 ∙ turn .inv .1, simp length-set (turn .inv .2),
-    after-more (args .m) (args .n) (turn .j) a (turn .a) (made .last .0) (made .result) (turn .inv .3) (made .ensures),
-    beta-more (args .m) (args .n) (turn .j) a (turn .a) (made .last .0) (turn .b) (now (args .b)) (made .result) (turn .inv .3) (made .ensures) room (turn .inv .4))
+    let room : turn .j < length (now (args .b)) = omega (arith, test .loop-test .taken, start .pre .1) in (
+      omega (arith, test .loop-test .taken),
+      made .kept .0 ∙ turn .inv .1,
+      simp length-set (turn .inv .2),
+      after-more (args .m) (args .n) (turn .j) a (turn .a) (made .last .0) (made .result) (turn .inv .3) (made .ensures),
+      beta-more (args .m) (args .n) (turn .j) a (turn .a) (made .last .0) (turn .b) (now (args .b)) (made .result) (turn .inv .3) (made .ensures) room (turn .inv .4),
+    )
 
 same-length : tie.Need-same-length Inv-loop μ-loop
 same-length c = c .before .loop .inv .1

@@ -75,10 +75,13 @@ loop-again c =
     let a = take k (now (args .s)) in
     let t = times (args .beta) (test .before .before .stored-dot .result) in
     let len : length a ≡ k = length-take-le k (now (args .s)) (omega (arith, start .pre .0)) in
-    let is = turn .inv .3 in
-    (omega arith, omega (arith, test), simp length-set (turn .inv .2),
-    glued-more a (drop k (now (args .s))) (turn .s) k (args .j) (turn .i) (λ i x. less (at x i) (times t (led one (cell (args .n) a) (args .j) i))) _ len (turn .inv .0) is
-    (rw (at-back a _ (turn .s) k len is (turn .i), c .before .led-at .ensures, led-take one (args .n) k (args .j) (turn .i) (turn .s) (inside test), take-front a _ (turn .s) k len is)))
+    let is = turn .inv .3 in (
+      omega arith,
+      omega (arith, test),
+      simp length-set (turn .inv .2),
+      glued-more a (drop k (now (args .s))) (turn .s) k (args .j) (turn .i) (λ i x. less (at x i) (times t (led one (cell (args .n) a) (args .j) i))) _ len (turn .inv .0) is
+          (rw (at-back a _ (turn .s) k len is (turn .i), c .before .led-at .ensures, led-take one (args .n) k (args .j) (turn .i) (turn .s) (inside test), take-front a _ (turn .s) k len is)),
+    )
 
 same-length : tie.Need-same-length Inv-loop μ-loop
 same-length c = c .before .loop .inv .2

@@ -75,10 +75,13 @@ loop-again c =
     let start = test .before .before .before .before .before .before .before .before in
     let args = start .args in
     let row = c .before .before .before .before .before .before .less-row2 in
-    let stored = c .before .before .put in
-    (omega (arith, turn), omega (arith, test), stored .kept .0 ∙ row .kept .0 ∙ turn .inv .2,
-    λ l size rows. turned-row (args .m) (args .n) (args .j) (args .x) (now (args .t)) l size (start .pre .0 .wide) (turn .i) _ (turn .a) (row .last .0) (omega (arith, turn)) (test .loop-test .taken) (turn .inv .3 l size rows)
-        (c .before .before .before .before .before .before .before .before .cell .ensures) (row .ensures) _ (stored .ensures))
+    let stored = c .before .before .put in (
+      omega (arith, turn),
+      omega (arith, test),
+      stored .kept .0 ∙ row .kept .0 ∙ turn .inv .2,
+      λ l size rows. turned-row (args .m) (args .n) (args .j) (args .x) (now (args .t)) l size (start .pre .0 .wide) (turn .i) _ (turn .a) (row .last .0) (omega (arith, turn)) (test .loop-test .taken) (turn .inv .3 l size rows)
+          (c .before .before .before .before .before .before .before .before .cell .ensures) (row .ensures) _ (stored .ensures),
+    )
 
 same-length : tie.Need-same-length Inv-loop μ-loop
 same-length c = c .before .loop .inv .2 ∙ c .before .before .before .before .less-row .kept .0
