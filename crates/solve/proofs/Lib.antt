@@ -1,2 +1,3 @@
 -- What the proofs share. Assumes nothing.
 mod Least
+mod LeastEnds

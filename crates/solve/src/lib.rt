@@ -1,5 +1,6 @@
 // The solvers.
 pub mod inner;
+
 ghost use mathlib.Core.Path.{_≡_};
 ghost use Rattle.solve.specs.Calls.{LeastCall};
 use refusal::Answer;
@@ -9,7 +10,14 @@ use slices::inner::clear;
 use slices::inner::copy;
 
 // The least squares solution of the m by n matrix `a` and the right-hand side `b`, into `out`.
-pub fn solve_least_squares(a: &[f64], b: &[f64], m: usize, n: usize, out: &mut [f64], workspace: &mut [f64]) -> Answer
+pub fn solve_least_squares(
+    a: &[f64],
+    b: &[f64],
+    m: usize,
+    n: usize,
+    out: &mut [f64],
+    workspace: &mut [f64],
+) -> Answer
     ensures { λ r. ⌜ LeastCall (now (a .entry)) (now (b .entry)) m n (now (out .entry)) (now (out .exit)) (now (workspace .entry)) (now (workspace .exit)) r ⌝ }
 {
     if n > 64 {

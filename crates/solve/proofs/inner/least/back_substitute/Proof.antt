@@ -119,10 +119,13 @@ loop-again c =
     let a = matrix test in
     let len : length a ≡ k = length-take-le k _ (omega (arith, test .before .before .before .pre)) in
     let lessened = c .before .before .lessen-above in
-    let made = back-step n k (turn .j - 1) a (turn .s) (lessened .last .0) _ (turn .inv .2) (found .before .cell .ensures ∙ diagonal test) (lessened .ensures) in
-    (omega (arith, turn), lessened .kept .0 ∙ simp length-set (turn .inv .1), take-front a _ _ k len made,
-    ap (way-down (back-column n a) (turn .j - 1)) (drop-back a _ _ k len made)
-    ∙ sym (back-goes n (turn .j) a (drop k (turn .s)) (omega (arith, test)) (tested found (c .before .before .before .before .before .if1 .left))) ∙ turn .inv .3)
+    let made = back-step n k (turn .j - 1) a (turn .s) (lessened .last .0) _ (turn .inv .2) (found .before .cell .ensures ∙ diagonal test) (lessened .ensures) in (
+      omega (arith, turn),
+      lessened .kept .0 ∙ simp length-set (turn .inv .1),
+      take-front a _ _ k len made,
+      ap (way-down (back-column n a) (turn .j - 1)) (drop-back a _ _ k len made)
+          ∙ sym (back-goes n (turn .j) a (drop k (turn .s)) (omega (arith, test)) (tested found (c .before .before .before .before .before .if1 .left))) ∙ turn .inv .3,
+    )
 
 same-length-2 : tie.Need-same-length-2 Inv-loop μ-loop
 same-length-2 c = c .before .loop .inv .1

@@ -79,10 +79,12 @@ loop-again c =
     let k = args .m * args .n in
     let a = take k (now (args .s)) in
     let len : length a ≡ k = length-take-le k (now (args .s)) (omega (arith, start .pre .0)) in
-    let is = turn .inv .2 in
-    (omega arith, simp length-set (turn .inv .1),
-    glued-more a (drop k (now (args .s))) (turn .s) k 0 (turn .i) (λ i x. less (at x i) (times (cell (args .n) a i (args .j)) (at x (args .j)))) _ len (omega arith) is
-    (rw (c .before .before .cell .ensures, at-back a _ (turn .s) k len is (turn .i), at-front a _ (turn .s) k len is (turn .i * args .n + args .j) (inside test), at-back a _ (turn .s) k len is (args .j))))
+    let is = turn .inv .2 in (
+      omega arith,
+      simp length-set (turn .inv .1),
+      glued-more a (drop k (now (args .s))) (turn .s) k 0 (turn .i) (λ i x. less (at x i) (times (cell (args .n) a i (args .j)) (at x (args .j)))) _ len (omega arith) is
+          (rw (c .before .before .cell .ensures, at-back a _ (turn .s) k len is (turn .i), at-front a _ (turn .s) k len is (turn .i * args .n + args .j) (inside test), at-back a _ (turn .s) k len is (args .j))),
+    )
 
 same-length : tie.Need-same-length Inv-loop μ-loop
 same-length c = c .before .loop .inv .1
