@@ -12,7 +12,7 @@ use lib.Seq.{getD-set-same, getD-set-other, getD-take}
 use lib.Ieee.{Float, nan}
 use Rattle.steps.specs.Num.{less, times, over, at, Entry, cell}
 use Rattle.steps.specs.Cond.{lt-or-ge}
-use Rattle.steps.specs.Table.{table, is-table, table-cong}
+use Rattle.steps.specs.Table.{is-table, table-cong}
 use Rattle.steps.specs.Wrote.{Wrote}
 use Rattle.decomp.specs.Qr.{led, store, lose, reflect}
 

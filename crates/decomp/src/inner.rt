@@ -1,7 +1,7 @@
 // The columns of QR in place, and Q-transpose behind the matrix. Each function may require what its caller tested.
 ghost use mathlib.Core.Path.{_≡_};
 ghost use mathlib.Core.List.{_++_};
-ghost use Prim.Native.Nat.{ℕ, _+_, _*_, _≤_, _<_};
+ghost use Prim.Native.Nat.{_+_, _*_, _≤_, _<_};
 ghost use lib.ListN.{length, take, drop};
 ghost use Rattle.steps.specs.Num.{plus, less, times, one, at, cell};
 ghost use Rattle.steps.specs.Wrote.{Wrote};

@@ -1,7 +1,6 @@
 // Householder QR.
 pub mod inner;
 
-ghost use mathlib.Core.Path.{_≡_};
 ghost use Rattle.decomp.specs.Calls.{QrCall};
 use refusal::Answer;
 use refusal::Refusal;

@@ -5,11 +5,11 @@ use mathlib.Core.List.{List, [], _++_, append-nil}
 use Prim.Native.Nat.{ℕ, _+_, _-_, _≤_, _<_}
 use native.Mathlib.Nat.{sub-zero}
 use native.Mathlib.Omega.{arith}
-use lib.ListN.{length, take, drop, set, length-take, length-drop, length-append}
+use lib.ListN.{length, take, drop, set, length-take, length-drop}
 use lib.Seq.{getD-drop, take-at, drop-at, take-append-le, drop-append-le, take-set-le, drop-set-add, drop-drop, drop-length}
 use lib.Ieee.{Float, nan, lt}
 use Rattle.steps.specs.Num.{over, 1e-15, at, cell}
-use Rattle.steps.specs.Loops.{Way, going, stopped, way-down, way-down-goes, way-down-stops}
+use Rattle.steps.specs.Loops.{Way, stopped, way-down, way-down-goes, way-down-stops}
 use Rattle.steps.specs.Space.{part, withPart, cleared, cleared-with, length-with}
 use Rattle.steps.specs.Glue.{seen, take-front, drop-back}
 use Rattle.float64.specs.Root.{absOf}

@@ -1,5 +1,5 @@
 -- The ways out of `solve_least_squares`: refused by the sizes, refused by the solve, solved. Assumes nothing.
-use mathlib.Core.Path.{_≡_, refl, sym}
+use mathlib.Core.Path.{_≡_}
 use mathlib.Core.List.{List}
 use Prim.Native.Nat.{ℕ}
 use lib.ListN.{length, take}

@@ -1,7 +1,6 @@
 // The solvers.
 pub mod inner;
 
-ghost use mathlib.Core.Path.{_≡_};
 ghost use Rattle.solve.specs.Calls.{LeastCall};
 use refusal::Answer;
 use refusal::Refusal;

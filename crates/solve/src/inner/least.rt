@@ -1,7 +1,7 @@
 // Least squares inside one slice: the matrix, then the right-hand side, whose first n numbers are the values afterwards.
 ghost use mathlib.Core.Path.{_≡_};
 ghost use mathlib.Core.List.{_++_};
-ghost use Prim.Native.Nat.{ℕ, _+_, _*_, _≤_, _<_};
+ghost use Prim.Native.Nat.{_+_, _*_, _<_};
 ghost use lib.ListN.{length, take, drop};
 ghost use Rattle.refusal.specs.Answers.{told};
 ghost use Rattle.decomp.specs.Steps.{Packed};

@@ -1,6 +1,5 @@
 -- `add_row` meets its contract. The loop's invariant: the sums of the columns passed have their new value.
-use mathlib.Core.Path.{_≡_}
-use Prim.Native.Nat.{ℕ, _+_, _-_, _≤_, _<_}
+use Prim.Native.Nat.{_+_, _-_, _≤_}
 use native.Mathlib.Omega.{arith}
 use denote.Ref.{now}
 use Rattle.steps.specs.Num.{plus, times, at}

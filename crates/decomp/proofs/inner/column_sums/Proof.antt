@@ -1,6 +1,6 @@
 -- `column_sums` meets its contract. The loop's invariant: the sums are those over the rows passed.
 use mathlib.Core.Path.{_≡_, refl, ap, _∙_}
-use Prim.Native.Nat.{ℕ, _+_, _*_, _-_, _≤_, _<_}
+use Prim.Native.Nat.{ℕ, _-_, _≤_}
 use native.Mathlib.Omega.{arith}
 use lib.ListN.{length}
 use lib.Arith.{digits-lt}

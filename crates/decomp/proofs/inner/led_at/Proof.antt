@@ -1,5 +1,4 @@
 -- `led_at` meets its contract: its test is that of `led`.
-use mathlib.Core.Path.{_≡_, refl}
 use borrow.Author.Needs.{needs}
 use borrow.Author.Tests.{eq-eqb, ne-eqb}
 use Rattle.decomp.specs.Qr.{led}

@@ -1,5 +1,4 @@
 -- `qr_column` meets its contract: its three ways out are those of `column`.
-use mathlib.Core.Path.{_≡_}
 use native.Mathlib.Omega.{arith}
 use borrow.Author.Needs.{needs}
 use lib.Arith.{digits-lt}

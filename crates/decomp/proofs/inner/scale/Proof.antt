@@ -1,6 +1,5 @@
 -- `scale` meets its contract. The loop's invariant: the numbers of the columns passed have their new value.
-use mathlib.Core.Path.{_≡_}
-use Prim.Native.Nat.{ℕ, _+_, _-_, _≤_, _<_}
+use Prim.Native.Nat.{_-_, _≤_}
 use native.Mathlib.Omega.{arith}
 use Rattle.steps.specs.Num.{times, at}
 use Rattle.steps.specs.Wrote.{Wrote, wrote-none, wrote-turn, wrote-end}

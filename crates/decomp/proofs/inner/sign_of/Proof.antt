@@ -1,5 +1,4 @@
 -- `sign_of` meets its contract: its test is that of `sign`.
-use mathlib.Core.Path.{_≡_, refl}
 use Rattle.decomp.specs.Qr.{sign}
 use Rattle.decomp.proofs.inner.sign_of.Statement.{statement}
 use Rattle.decomp.proofs.inner.sign_of.Tie as tie

@@ -1,6 +1,6 @@
 -- `squares` meets its contract. The loop's invariant: the sum is that of the rows passed.
 use mathlib.Core.Path.{_≡_, refl, sym}
-use Prim.Native.Nat.{ℕ, _+_, _*_, _-_, _≤_, _<_}
+use Prim.Native.Nat.{_-_, _≤_}
 use native.Mathlib.Omega.{arith}
 use lib.Arith.{digits-lt}
 use Rattle.steps.specs.Num.{cell}

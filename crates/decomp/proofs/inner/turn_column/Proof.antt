@@ -1,7 +1,7 @@
 -- `turn_column` meets its contract. The loop's invariant: the matrix is as it was, and the rows passed have lost their part.
 use mathlib.Core.Path.{_≡_, refl}
 use mathlib.Core.List.{_++_}
-use Prim.Native.Nat.{ℕ, _+_, _*_, _-_, _≤_, _<_}
+use Prim.Native.Nat.{_+_, _*_, _-_, _≤_, _<_}
 use native.Mathlib.Omega.{arith}
 use lib.ListN.{length, length-set, take, drop, set}
 use lib.Seq.{length-take-le}

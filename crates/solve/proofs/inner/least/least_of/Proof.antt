@@ -1,6 +1,6 @@
 -- `least_of` meets its contract: what is solved is the two copies.
-use mathlib.Core.Path.{_≡_, _∙_}
-use Prim.Native.Nat.{ℕ, _*_}
+use mathlib.Core.Path.{_∙_}
+use Prim.Native.Nat.{_*_}
 use borrow.Author.Needs.{needs}
 use denote.Ref.{now}
 use Rattle.steps.specs.Space.{withPart}
