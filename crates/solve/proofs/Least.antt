@@ -5,12 +5,12 @@ use mathlib.Core.List.{List, [], _++_, append-nil}
 use Prim.Native.Nat.{ℕ, _+_, _-_, _≤_, _<_}
 use native.Mathlib.Nat.{sub-zero}
 use native.Mathlib.Omega.{arith}
-use lib.ListN.{length, take, drop, set, length-take, length-drop}
+use lib.ListN.{length, take, drop, set, length-drop}
 use lib.Seq.{getD-drop, take-at, drop-at, take-append-le, drop-append-le, take-set-le, drop-set-add, drop-drop, drop-length}
 use lib.Ieee.{Float, nan, lt}
 use Rattle.steps.specs.Num.{over, 1e-15, at, cell}
 use Rattle.steps.specs.Loops.{Way, stopped, way-down, way-down-goes, way-down-stops}
-use Rattle.steps.specs.Space.{part, withPart, cleared, cleared-with, length-with}
+use Rattle.steps.specs.Space.{part, withPart, cleared, cleared-with}
 use Rattle.steps.specs.Glue.{seen, take-front, drop-back}
 use Rattle.float64.specs.Root.{absOf}
 use Rattle.decomp.specs.Qr.{after, betas, qt}
@@ -52,9 +52,6 @@ module _ (m n k : ℕ) (w t : List Float) (fit : k + m ≤ length w) (lt : lengt
   whole : length t ≡ k + m - 0
   whole = lt ∙ sym (sub-zero (k + m))
 
-  pub long : length (withPart 0 (k + m) t w) ≡ length w
-  long = length-with 0 (k + m) t w (omega arith) fit whole
-
   pub read : part k (k + n) (withPart 0 (k + m) t w) ≡ take n (drop k t)
   unfolding withPart
   read =
@@ -62,9 +59,6 @@ module _ (m n k : ℕ) (w t : List Float) (fit : k + m ≤ length w) (lt : lengt
       let h : n ≤ length (drop k t) = simp length-drop (omega arith) in
       let g : k ≤ length t = omega arith in
       rw (e, drop-append-le k t (drop (k + m - 0) w) g, take-append-le n (drop k t) (drop (k + m - 0) w) h)
-
-  pub read-long : length (part k (k + n) (withPart 0 (k + m) t w)) ≡ n
-  read-long = ap length read ∙ simp (length-take, length-drop) (omega arith)
 
   pub clears : (need : ℕ) → k + m ≤ need → need ≤ length w → cleared need (withPart 0 (k + m) t w) ≡ cleared need w
   clears need h h' = cleared-with 0 (k + m) need t w (omega arith) h h' whole
