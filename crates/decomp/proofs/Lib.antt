@@ -1,0 +1,3 @@
+-- What the proofs share. Assumes nothing.
+mod Rows
+mod Column

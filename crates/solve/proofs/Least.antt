@@ -1,0 +1,64 @@
+-- Least squares of the two parts of a slice, and the workspace that it stands in. Assumes nothing.
+use mathlib.Core.Path.{_≡_, refl, sym, ap, _∙_}
+use mathlib.Core.Bool.{true, false}
+use mathlib.Core.List.{List, [], _++_, append-nil}
+use Prim.Native.Nat.{ℕ, _+_, _-_, _≤_, _<_}
+use native.Mathlib.Nat.{sub-zero}
+use native.Mathlib.Omega.{arith}
+use lib.ListN.{length, take, drop, set, length-drop}
+use lib.Seq.{getD-drop, take-at, drop-at, take-append-le, drop-append-le, take-set-le, drop-set-add, drop-drop, drop-length}
+use lib.Ieee.{Float, nan, lt}
+use Rattle.steps.specs.Num.{over, 1e-15, at, cell}
+use Rattle.steps.specs.Loops.{Way, stopped, way-down, way-down-goes, way-down-stops}
+use Rattle.steps.specs.Space.{part, withPart, cleared, cleared-with}
+use Rattle.steps.specs.Glue.{seen, take-front, drop-back}
+use Rattle.float64.specs.Root.{absOf}
+use Rattle.decomp.specs.Qr.{after, betas, qt}
+use Rattle.solve.specs.Least.{above, back-column, back, values, least}
+
+-- a turn of back substitution goes on, or stops
+module _ (n j : ℕ) (a x : List Float) (h : 0 < j) where
+  pub back-goes : lt (absOf (cell n a (j - 1) (j - 1))) 1e-15 ≡ false → way-down (back-column n a) j x ≡ way-down (back-column n a) (j - 1) (above n a (j - 1) (j - 1) (set x (j - 1) (over (at x (j - 1)) (cell n a (j - 1) (j - 1)))))
+  unfolding back-column
+  back-goes e = way-down-goes (back-column n a) j x _ h (rw e)
+
+  pub back-stops : lt (absOf (cell n a (j - 1) (j - 1))) 1e-15 ≡ true → way-down (back-column n a) j x ≡ stopped (j - 1) x
+  unfolding back-column
+  back-stops e = way-down-stops (back-column n a) j (j - 1) x x h (rw e)
+
+-- a division behind the matrix, and the update above it
+pub back-step : (n k j : ℕ) (a s t : List Float) (r : Float) → take k s ≡ a → r ≡ cell n a j j → let u = set s (k + j) (over (at s (k + j)) r) in t ≡ take k u ++ above n (take k u) j j (drop k u) → t ≡ a ++ above n a j j (set (drop k s) j (over (at (drop k s) j) (cell n a j j)))
+back-step n k j a s t r q e w = w ∙ rw (take-set-le k s (k + j) (over (at s (k + j)) r) (omega arith), drop-set-add k s j (over (at s (k + j)) r), q, e, getD-drop k s j nan)
+
+-- QR in front, Q-transpose behind, back substitution: as a part from 0 comes back
+pub least-is : (m n k : ℕ) (s f b t : List Float) (x : Way (List Float)) → length f ≡ k → f ≡ after m n (take (k - 0) s) n → b ≡ betas m n (take (k - 0) s) → t ≡ take k (f ++ drop (k - 0) s) ++ qt m n (take k (f ++ drop (k - 0) s)) b n (drop k (f ++ drop (k - 0) s)) → x ≡ back n (take k t) (drop k t) → values n x ≡ least m n (take k s) (drop k s)
+unfolding least
+least-is m n k s f b t x len is-f is-b is-t is-x =
+    let q : t ≡ f ++ qt m n f b n (drop k s) = seen f (drop k s) (f ++ drop k s) k len refl (λ x y. qt m n x b n y) (rw sub-zero at is-t) in
+    ap (values n) (is-x ∙ rw (take-front f _ t k len q, drop-back f _ t k len q, rw sub-zero at is-f, rw sub-zero at is-b))
+
+-- a and b copied into a slice of their length: the solve of what stands there is theirs
+pub loaded : (m n k : ℕ) (s t u a b : List Float) → length s ≡ k + m → length a ≡ k → length b ≡ m → t ≡ a → u ≡ b → let w = withPart k (k + m) u (withPart 0 k t s) in least m n (take k w) (drop k w) ≡ least m n a b
+unfolding withPart
+loaded m n k s t u a b ls la lb is-t is-u =
+    rw (is-t, is-u, sub-zero, take-at a (drop k s) k la, drop-at a (drop k s) k la)
+    (rw (rest, append-nil, take-at a b k la, drop-at a b k la))
+  where
+    rest : drop (k + m - k) (drop k s) ≡ []
+    rest = drop-drop (k + m - k) k s ∙ (let e : k + (k + m - k) ≡ length s = omega (arith, ls) in rw e (drop-length s))
+
+-- what the solve left in the first k + m numbers of a workspace: the values are read, and clearing forgets it
+module _ (m n k : ℕ) (w t : List Float) (fit : k + m ≤ length w) (lt : length t ≡ k + m) (tall : n ≤ m) where
+  whole : length t ≡ k + m - 0
+  whole = lt ∙ sym (sub-zero (k + m))
+
+  pub read : part k (k + n) (withPart 0 (k + m) t w) ≡ take n (drop k t)
+  unfolding withPart
+  read =
+      let e : k + n - k ≡ n = omega arith in
+      let h : n ≤ length (drop k t) = simp length-drop (omega arith) in
+      let g : k ≤ length t = omega arith in
+      rw (e, drop-append-le k t (drop (k + m - 0) w) g, take-append-le n (drop k t) (drop (k + m - 0) w) h)
+
+  pub clears : (need : ℕ) → k + m ≤ need → need ≤ length w → cleared need (withPart 0 (k + m) t w) ≡ cleared need w
+  clears need h h' = cleared-with 0 (k + m) need t w (omega arith) h h' whole
