@@ -3,7 +3,7 @@ ghost use mathlib.Core.Path.{_≡_};
 ghost use Prim.Native.Nat.{ℕ, _+_, _*_, _≤_, _<_};
 ghost use lib.ListN.{length};
 ghost use Rattle.refusal.specs.Answers.{told};
-ghost use Rattle.solve.specs.Lu.{Pivots, swap-rows, less-row, eliminated, lu-factor, lu-forward, lu-back, lu};
+ghost use Rattle.solve.specs.Lu.{Pivots, swap-rows, lu-swap, less-row, eliminated, lu-factor, lu-forward, lu-back, lu};
 use float64::abs;
 use refusal::Solved;
 use slices::inner::cell;
@@ -44,6 +44,18 @@ fn swap_rows(a: &mut [f64], n: usize, k: usize, r: usize)
     }
 }
 
+// Rows k and r change places, and b's entries with them.
+fn swap_both(a: &mut [f64], b: &mut [f64], n: usize, k: usize, r: usize)
+    requires { ⌜ (length (now a) ≡ n * n) × (length (now b) ≡ n) × (k < n) × (r < n) ⌝ }
+    ensures { λ _. ⌜ (now (a .exit), now (b .exit)) ≡ lu-swap n k r (now (a .entry), now (b .entry)) ⌝ }
+{
+    if r == k {
+        return;
+    }
+    swap_rows(a, n, k, r);
+    swap(b, k, r);
+}
+
 // The rest of row i less factor times row k.
 fn less_row(a: &mut [f64], n: usize, k: usize, i: usize, factor: f64)
     requires { ⌜ (length (now a) ≡ n * n) × (k < n) × (i < n) ⌝ }
@@ -79,10 +91,7 @@ fn lu_factor(a: &mut [f64], b: &mut [f64], n: usize) -> Solved
         if p.size < 1e-15 {
             return Solved::Refused(k);
         }
-        if row != k {
-            swap_rows(a, n, k, row);
-            swap(b, k, row);
-        }
+        swap_both(a, b, n, k, row);
         eliminate(a, n, k);
     }
     Solved::Done
