@@ -29,7 +29,7 @@ pub fn normal_equations_packed(ws: &mut [f64], b: &mut [f64], n: usize) -> Solve
     ensures { λ r. ⌜ told r (now (b .exit)) ≡ normal n (take (n * n) (now (ws .entry))) (now (b .entry)) ⌝ }
 {
     let e = n * n;
-    let f = 2 * e;
+    let f = e + e;
     copy_within(ws, 0, e, e);
     let Solved::Done = cholesky(&mut ws[e..f], b, n) else {
         copy_within(ws, 0, e, e);

@@ -1,0 +1,2 @@
+-- How a solve ends, over plain values. Assumes nothing.
+pub mod Ends
