@@ -1,2 +1,3 @@
--- How a solve ends, over plain values. Assumes nothing.
+-- What the solvers' proofs share, over plain values. Assumes nothing.
 pub mod Ends
+pub mod Sizes

@@ -1,5 +1,6 @@
 // The solvers.
 pub mod inner;
+
 ghost use mathlib.Core.Path.{_≡_};
 ghost use Rattle.solve.specs.Calls.{CholeskyCall, LuCall, NormalCall};
 use inner::cholesky::cholesky;

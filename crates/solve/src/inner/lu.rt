@@ -4,12 +4,12 @@ ghost use Prim.Native.Nat.{ℕ, _+_, _*_, _≤_, _<_};
 ghost use lib.ListN.{length};
 ghost use Rattle.refusal.specs.Answers.{told};
 ghost use Rattle.solve.specs.Lu.{Pivots, swap-rows, lu-swap, less-row, eliminated, lu-factor, lu-forward, lu-back, lu};
+use super::cholesky::row_sum;
 use float64::abs;
 use refusal::Solved;
 use slices::inner::cell;
 use slices::inner::put;
 use slices::inner::swap;
-use super::cholesky::row_sum;
 
 // The pivot's magnitude and its row.
 struct Pivot {

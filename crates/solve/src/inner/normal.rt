@@ -4,11 +4,11 @@ ghost use Prim.Native.Nat.{_*_};
 ghost use lib.ListN.{length, take};
 ghost use Rattle.refusal.specs.Answers.{told};
 ghost use Rattle.solve.specs.Normal.{normal};
+use super::cholesky::cholesky;
+use super::lu::lu;
 use refusal::Solved;
 use slices::inner::copy;
 use slices::inner::copy_within;
-use super::cholesky::cholesky;
-use super::lu::lu;
 
 // The copy is made in ws, of n * n numbers.
 pub fn normal_equations(a: &[f64], b: &mut [f64], n: usize, ws: &mut [f64]) -> Solved

@@ -41,11 +41,12 @@ loop-again : tie.Need-loop-again Inv-loop μ-loop
 loop-again c =
     let within = c .before .before .before .before .before .before in
     let turn = within .before .loop in
-    let put = c .before .before .put in
-    (omega (arith, within),
-    omega (arith, within),
-    put .kept .0 ∙ turn .inv .2,
-    loop-more _ (turn .i) _ _ (turn .inv .0) (turn .inv .3) (rw (put .ensures, c .before .before .before .before .row-less .ensures)))
+    let put = c .before .before .put in (
+      omega (arith, within),
+      omega (arith, within),
+      put .kept .0 ∙ turn .inv .2,
+      loop-more _ (turn .i) _ _ (turn .inv .0) (turn .inv .3) (rw (put .ensures, c .before .before .before .before .row-less .ensures)),
+    )
 
 same-length : tie.Need-same-length Inv-loop μ-loop
 same-length c = c .before .loop .inv .2 ∙ sym (c .before .before .before .pre .0)

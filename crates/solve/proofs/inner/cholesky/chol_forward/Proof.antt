@@ -44,10 +44,11 @@ loop-less c = omega (arith, c .before .before .before)
 
 loop-again : tie.Need-loop-again Inv-loop μ-loop
 loop-again c =
-    let turn = c .before .before .before .before .loop in
-    (omega (arith, c .before .before .before),
-    simp length-set (turn .inv .1),
-    loop-more 0 (turn .i) _ _ (omega arith) (turn .inv .2) (rw (c .cell .ensures, c .before .row-sum .ensures)))
+    let turn = c .before .before .before .before .loop in (
+      omega (arith, c .before .before .before),
+      simp length-set (turn .inv .1),
+      loop-more 0 (turn .i) _ _ (omega arith) (turn .inv .2) (rw (c .cell .ensures, c .before .row-sum .ensures)),
+    )
 
 same-length : tie.Need-same-length Inv-loop μ-loop
 same-length c = c .before .loop .inv .1 ∙ sym (c .before .before .before .before .pre .1)

@@ -64,11 +64,12 @@ loop-again c =
     let root = put .before .before in
     let test = root .before in
     let within = test .before .before .before in
-    let turn = within .before .loop in
-    (omega (arith, within),
-    below .kept .0 ∙ put .put .kept .0 ∙ turn .inv .1,
-    way-goes _ 0 (turn .j) _ (turn .a) _ (omega arith) (turn .inv .2)
-    (rw (← test .before .row-less .ensures, test .if1 .left, below .ensures, put .put .ensures, root .sqrt .ensures)))
+    let turn = within .before .loop in (
+      omega (arith, within),
+      below .kept .0 ∙ put .put .kept .0 ∙ turn .inv .1,
+      way-goes _ 0 (turn .j) _ (turn .a) _ (omega arith) (turn .inv .2)
+          (rw (← test .before .row-less .ensures, test .if1 .left, below .ensures, put .put .ensures, root .sqrt .ensures)),
+    )
 
 same-length-2 : tie.Need-same-length-2 Inv-loop μ-loop
 same-length-2 c = c .before .loop .inv .1 ∙ sym (c .before .before .before .before .before .pre)

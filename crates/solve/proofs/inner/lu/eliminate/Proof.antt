@@ -53,12 +53,13 @@ loop-again c =
     let put = c .before .before .before .before .before .before .put in
     let factor = c .before .before .before .before .before .before .before .before .cell2 in
     let within = c .before .before .before .before .before .before .before .before .before .before in
-    let turn = within .before .loop in
-    (omega (arith, within),
-    omega (arith, within),
-    row .kept .0 ∙ put .kept .0 ∙ turn .inv .2,
-    turn .inv .3,
-    loop-more _ (turn .i) _ _ (turn .inv .0) (turn .inv .4) (rw (row .ensures, put .ensures, factor .ensures, turn .inv .3)))
+    let turn = within .before .loop in (
+      omega (arith, within),
+      omega (arith, within),
+      row .kept .0 ∙ put .kept .0 ∙ turn .inv .2,
+      turn .inv .3,
+      loop-more _ (turn .i) _ _ (turn .inv .0) (turn .inv .4) (rw (row .ensures, put .ensures, factor .ensures, turn .inv .3)),
+    )
 
 same-length : tie.Need-same-length Inv-loop μ-loop
 same-length c = c .before .loop .inv .2 ∙ sym (c .before .before .before .before .before .pre .0)

@@ -47,11 +47,12 @@ loop-less c = omega (arith, c .before .before .before .before .before .before .b
 loop-again : tie.Need-loop-again Inv-loop μ-loop
 loop-again c =
     let turn = c .before .before .before .before .before .before .before .before .before .loop in
-    let put = c .before .before .put in
-    (omega (arith, c .before .before .before .before .before .before .before .before),
-    omega (arith, c .before .before .before .before .before .before .before .before),
-    put .kept .0 ∙ turn .inv .2,
-    loop-more _ (turn .j) _ _ (turn .inv .0) (turn .inv .3) (rw (put .ensures, c .before .before .before .before .before .before .cell .ensures, c .before .before .before .before .cell2 .ensures)))
+    let put = c .before .before .put in (
+      omega (arith, c .before .before .before .before .before .before .before .before),
+      omega (arith, c .before .before .before .before .before .before .before .before),
+      put .kept .0 ∙ turn .inv .2,
+      loop-more _ (turn .j) _ _ (turn .inv .0) (turn .inv .3) (rw (put .ensures, c .before .before .before .before .before .before .cell .ensures, c .before .before .before .before .cell2 .ensures)),
+    )
 
 same-length : tie.Need-same-length Inv-loop μ-loop
 same-length c = c .before .loop .inv .2 ∙ sym (c .before .before .before .pre .0)

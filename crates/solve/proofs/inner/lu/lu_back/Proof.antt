@@ -46,10 +46,11 @@ loop-less c = omega (arith, c .before .before .before)
 loop-again : tie.Need-loop-again Inv-loop μ-loop
 loop-again c =
     let within = c .before .before .before in
-    let turn = within .before .loop in
-    (omega (arith, within),
-    simp length-set (turn .inv .1),
-    rw (c .cell .ensures, c .before .row-sum .ensures) (sym (down-more _ (turn .i) (turn .b) (within .loop-test .taken)) ∙ turn .inv .2))
+    let turn = within .before .loop in (
+      omega (arith, within),
+      simp length-set (turn .inv .1),
+      rw (c .cell .ensures, c .before .row-sum .ensures) (sym (down-more _ (turn .i) (turn .b) (within .loop-test .taken)) ∙ turn .inv .2),
+    )
 
 same-length : tie.Need-same-length Inv-loop μ-loop
 same-length c = c .before .loop .inv .1 ∙ sym (c .before .before .before .before .pre .1)

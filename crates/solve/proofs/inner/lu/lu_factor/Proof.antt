@@ -69,12 +69,13 @@ loop-again c =
     let test = swap .before .before .before in
     let find = test .before .before in
     let within = find .before .before in
-    let turn = within .before .loop in
-    (omega (arith, within),
-    c .before .before .eliminate .kept .0 ∙ swap .swap-both .kept .0 ∙ turn .inv .1,
-    swap .swap-both .kept .1 .0 ∙ turn .inv .2,
-    way-goes _ 0 (turn .k) _ _ _ (omega arith) (turn .inv .3)
-    (column-goes _ _ _ _ _ _ _ _ _ (find .find-pivot .ensures) (test .if1 .left) (swap .swap-both .ensures) (c .before .before .eliminate .ensures)))
+    let turn = within .before .loop in (
+      omega (arith, within),
+      c .before .before .eliminate .kept .0 ∙ swap .swap-both .kept .0 ∙ turn .inv .1,
+      swap .swap-both .kept .1 .0 ∙ turn .inv .2,
+      way-goes _ 0 (turn .k) _ _ _ (omega arith) (turn .inv .3)
+          (column-goes _ _ _ _ _ _ _ _ _ (find .find-pivot .ensures) (test .if1 .left) (swap .swap-both .ensures) (c .before .before .eliminate .ensures)),
+    )
 
 same-length-3 : tie.Need-same-length-3 Inv-loop μ-loop
 same-length-3 c = c .before .loop .inv .1 ∙ sym (c .before .before .before .before .pre .0)
