@@ -1,5 +1,6 @@
 -- LU, by document 01's sentences. The matrix is n by n, stored by rows, and is worked on in place. Assumes nothing.
-use Prim.Native.Nat.{ℕ, _+_, _*_}
+use mathlib.Core.Path.{_≡_}
+use Prim.Native.Nat.{ℕ, _+_, _*_, _<_}
 use mathlib.Core.Bool.{Bool, cond}
 use mathlib.Core.List.{List}
 use lib.Dec.{eqb}
@@ -14,6 +15,12 @@ use Rattle.float64.specs.Root.{absOf}
 -- the pivot's row: the first of greatest magnitude from the diagonal down, replaced only by a strictly greater one, among the rows below hi
 unfoldable pub pivot-row : ℕ → List Float → ℕ → ℕ → ℕ
 pivot-row n a k hi = loop (k + 1) hi (λ i r. cond (lt (absOf (cell n a r k)) (absOf (cell n a i k))) i r) k
+
+-- what is said of a pivot that was found: its row and its magnitude
+pub record Pivots (n : ℕ) (a : List Float) (k row : ℕ) (size : Float) : Type 0 where
+  pub is : row ≡ pivot-row n a k n
+  pub greatest : size ≡ absOf (cell n a row k)
+  pub within : row < n
 
 -- a swap moves the whole row
 unfoldable pub swap-rows : ℕ → ℕ → ℕ → List Float → List Float

@@ -1,2 +1,5 @@
-// The solvers inside a workspace. Each function may require what its caller tested.
+// The solvers on lent slices whose lengths the caller tested: nothing here is a public call.
+pub mod cholesky;
 pub mod least;
+pub mod lu;
+pub mod normal;

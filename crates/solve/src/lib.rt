@@ -1,12 +1,79 @@
 // The solvers.
 pub mod inner;
 
-ghost use Rattle.solve.specs.Calls.{LeastCall};
+ghost use mathlib.Core.Path.{_≡_};
+ghost use Rattle.solve.specs.Calls.{CholeskyCall, LeastCall, LuCall, NormalCall};
+use inner::cholesky::cholesky;
+use inner::lu::lu;
+use inner::normal::normal_equations;
 use refusal::Answer;
 use refusal::Refusal;
 use refusal::Solved;
 use slices::inner::clear;
 use slices::inner::copy;
+
+// Solves by Cholesky: a becomes the factor, b the solution.
+pub fn solve_spd_cholesky(a: &mut [f64], b: &mut [f64], n: usize) -> Answer
+    ensures { λ r. ⌜ CholeskyCall (now (a .entry)) (now (b .entry)) n (now (a .exit)) (now (b .exit)) r ⌝ }
+{
+    if n > 64 {
+        return Answer::Refused(Refusal::ManyColumns);
+    }
+    if a.len() != n * n {
+        return Answer::Refused(Refusal::MatrixLength);
+    }
+    if b.len() != n {
+        return Answer::Refused(Refusal::TargetLength);
+    }
+    let Solved::Done = cholesky(a, b, n) else {
+        return Answer::Refused(Refusal::NotSpd);
+    };
+    Answer::Done
+}
+
+// Solves by LU: a becomes the factors, b the solution.
+pub fn solve_lu(a: &mut [f64], b: &mut [f64], n: usize) -> Answer
+    ensures { λ r. ⌜ LuCall (now (a .entry)) (now (b .entry)) n (now (a .exit)) (now (b .exit)) r ⌝ }
+{
+    if n > 64 {
+        return Answer::Refused(Refusal::ManyColumns);
+    }
+    if a.len() != n * n {
+        return Answer::Refused(Refusal::MatrixLength);
+    }
+    if b.len() != n {
+        return Answer::Refused(Refusal::TargetLength);
+    }
+    let Solved::Done = lu(a, b, n) else {
+        return Answer::Refused(Refusal::SmallPivot);
+    };
+    Answer::Done
+}
+
+// Solves by Cholesky, or by LU where that refuses: b becomes the solution, a stays, and the workspace is cleared.
+pub fn solve_normal_equations(a: &[f64], b: &mut [f64], n: usize, workspace: &mut [f64]) -> Answer
+    ensures { λ r. ⌜ NormalCall (now (a .entry)) (now (b .entry)) n (now (b .exit)) (now (workspace .entry)) (now (workspace .exit)) r ⌝ }
+{
+    if n > 64 {
+        return Answer::Refused(Refusal::ManyColumns);
+    }
+    let need = n * n;
+    if a.len() != need {
+        return Answer::Refused(Refusal::MatrixLength);
+    }
+    if b.len() != n {
+        return Answer::Refused(Refusal::TargetLength);
+    }
+    if workspace.len() < need {
+        return Answer::Refused(Refusal::WorkspaceShort);
+    }
+    let solved = normal_equations(a, b, n, &mut workspace[0..need]);
+    clear(workspace, need);
+    let Solved::Done = solved else {
+        return Answer::Refused(Refusal::SmallPivot);
+    };
+    Answer::Done
+}
 
 // The least squares solution of the m by n matrix `a` and the right-hand side `b`, into `out`.
 pub fn solve_least_squares(

@@ -1,0 +1,84 @@
+-- The sizes of a square solver as its tests found them, and what each call then answers and leaves. Assumes nothing.
+use mathlib.Core.Path.{_≡_, refl, ap}
+use mathlib.Core.List.{List}
+use Prim.Native.Nat.{ℕ, _*_, _≤_, _<_}
+use lib.ListN.{length}
+use lib.Ieee.{Float}
+use borrow.Author.Tests.{lt-ltb, le-ltb, eq-eqb, ne-eqb}
+use Rattle.steps.specs.Loops.{left}
+use Rattle.steps.specs.Space.{cleared}
+use Rattle.refusal.specs.Answers.{told, ended}
+use Rattle.refusal.specs.declared.Answer.{Answer}
+use Rattle.refusal.specs.declared.Answer.the-variants.{Done, Refused}
+use Rattle.refusal.specs.declared.Refusal.{Refusal}
+use Rattle.refusal.specs.declared.Refusal.the-variants.{ManyColumns, MatrixLength, TargetLength, WorkspaceShort, NotSpd, SmallPivot}
+use Rattle.refusal.specs.declared.Solved.{Solved}
+use Rattle.refusal.specs.declared.Solved.the-variants as S
+use Rattle.solve.specs.Cholesky.{cholesky}
+use Rattle.solve.specs.Lu.{lu}
+use Rattle.solve.specs.Normal.{normal}
+use Rattle.solve.specs.Calls.{square-sizes, normal-sizes, CholeskyCall, LuCall, NormalCall}
+
+module _ (n matrix right : ℕ) where
+  pub many-columns : (next : Answer) → 64 < n → square-sizes n matrix right next ≡ Refused ManyColumns
+  unfolding square-sizes
+  many-columns next h = rw (lt-ltb _ _ h)
+
+  pub matrix-length : (next : Answer) → n ≤ 64 → (matrix ≡ n * n → ⊥) → square-sizes n matrix right next ≡ Refused MatrixLength
+  unfolding square-sizes
+  matrix-length next h h' = rw (le-ltb _ _ h, ne-eqb _ _ h')
+
+  pub target-length : (next : Answer) → n ≤ 64 → matrix ≡ n * n → (right ≡ n → ⊥) → square-sizes n matrix right next ≡ Refused TargetLength
+  unfolding square-sizes
+  target-length next h e h' = rw (le-ltb _ _ h, eq-eqb _ _ e, ne-eqb _ _ h')
+
+  pub square-fits : n ≤ 64 → matrix ≡ n * n → right ≡ n → square-sizes n matrix right Done ≡ Done
+  unfolding square-sizes
+  square-fits h e e' = rw (le-ltb _ _ h, eq-eqb _ _ e, eq-eqb _ _ e')
+
+  pub workspace-short : (space : ℕ) → n ≤ 64 → matrix ≡ n * n → right ≡ n → space < n * n → normal-sizes n matrix right space ≡ Refused WorkspaceShort
+  unfolding normal-sizes square-sizes
+  workspace-short space h e e' short = rw (le-ltb _ _ h, eq-eqb _ _ e, eq-eqb _ _ e', lt-ltb _ _ short)
+
+  pub normal-fits : (space : ℕ) → n ≤ 64 → matrix ≡ n * n → right ≡ n → n * n ≤ space → normal-sizes n matrix right space ≡ Done
+  unfolding normal-sizes square-sizes
+  normal-fits space h e e' enough = rw (le-ltb _ _ h, eq-eqb _ _ e, eq-eqb _ _ e', le-ltb _ _ enough)
+
+-- a solve that was refused is refused as w
+abbrev pub answered : Refusal → Solved → Answer
+answered w S.Done = Done
+answered w (S.Refused c) = Refused w
+
+-- what a solve told, by its parts
+ended-told : {X : Type 0} (w : Refusal) (r : Solved) (s : X) → answered w r ≡ ended w (told r s)
+ended-told w S.Done s = refl
+ended-told w (S.Refused c) s = refl
+
+left-told : {X : Type 0} (r : Solved) (s : X) → s ≡ left (told r s)
+left-told S.Done s = refl
+left-told (S.Refused c) s = refl
+
+module _ (a b : List Float) (n : ℕ) where
+  -- a call whose sizes are refused leaves all as it was
+  pub cholesky-refused : (w : Refusal) → square-sizes n (length a) (length b) Done ≡ Refused w → CholeskyCall a b n a b (Refused w)
+  cholesky-refused w e = record { answer = rw e; matrix = rw e; right = rw e }
+
+  pub lu-refused : (w : Refusal) → square-sizes n (length a) (length b) Done ≡ Refused w → LuCall a b n a b (Refused w)
+  lu-refused w e = record { answer = rw e; matrix = rw e; right = rw e }
+
+  pub normal-refused : (s : List Float) (w : Refusal) → normal-sizes n (length a) (length b) (length s) ≡ Refused w → NormalCall a b n b s s (Refused w)
+  normal-refused s w e = record { answer = rw e; right = rw e; space = rw e }
+
+  -- an accepted one answers and leaves what its solve told
+  pub cholesky-accepted : (r : Solved) (a' b' : List Float) → square-sizes n (length a) (length b) Done ≡ Done → told r (a', b') ≡ cholesky n a b → CholeskyCall a b n a' b' (answered NotSpd r)
+  cholesky-accepted r a' b' e t =
+      let both : List Float × List Float = (a', b') in
+      record { answer = rw (e, ← t) (ended-told NotSpd r both); matrix = rw (e, ← t) (ap (λ (s : List Float × List Float). s .0) (left-told r both)); right = rw (e, ← t) (ap (λ (s : List Float × List Float). s .1) (left-told r both)) }
+
+  pub lu-accepted : (r : Solved) (a' b' : List Float) → square-sizes n (length a) (length b) Done ≡ Done → told r (a', b') ≡ lu n a b → LuCall a b n a' b' (answered SmallPivot r)
+  lu-accepted r a' b' e t =
+      let both : List Float × List Float = (a', b') in
+      record { answer = rw (e, ← t) (ended-told SmallPivot r both); matrix = rw (e, ← t) (ap (λ (s : List Float × List Float). s .0) (left-told r both)); right = rw (e, ← t) (ap (λ (s : List Float × List Float). s .1) (left-told r both)) }
+
+  pub normal-accepted : (r : Solved) (b' s s' : List Float) → normal-sizes n (length a) (length b) (length s) ≡ Done → told r b' ≡ normal n a b → s' ≡ cleared (n * n) s → NormalCall a b n b' s s' (answered SmallPivot r)
+  normal-accepted r b' s s' e t k = record { answer = rw (e, ← t) (ended-told SmallPivot r b'); right = rw (e, ← t) (left-told r b'); space = rw (e, k) }
