@@ -14,6 +14,7 @@ use Rattle.steps.specs.Num.{less, times, over, at, Entry, cell}
 use Rattle.steps.specs.Cond.{lt-or-ge}
 use Rattle.steps.specs.Table.{is-table, table-cong}
 use Rattle.steps.specs.Wrote.{Wrote}
+use Rattle.steps.specs.Rows.{Rows, rows-more, rows-apart}
 use Rattle.decomp.specs.Qr.{led, store, lose, reflect}
 
 -- the column with its leading entry replaced
@@ -74,24 +75,6 @@ reflect-cong m n j x t u l h =
     table-cong m n (New j x t e) (New j x u e)
     (λ i c a b. ⊎-elim (λ k. new-left j x t e i c k ∙ sym (new-left j x u e i c k)) (λ k. new-cong j x t u e i c (h c k b)) (lt-or-ge c j))
 
--- rows below i are those of f, the others those of l
-pub record Rows (m n : ℕ) (f : Entry) (l : List Float) (i : ℕ) (l' : List Float) : Type 0 where
-  pub long : length l' ≡ length l
-  pub new : (r c : ℕ) → r < i → c < n → cell n l' r c ≡ f r c
-  pub old : (r c : ℕ) → i ≤ r → r < m → c < n → cell n l' r c ≡ cell n l r c
-
-pub rows-more : (m n : ℕ) (f : Entry) (l : List Float) (i : ℕ) (l' l'' : List Float) → Rows m n f l i l' → length l'' ≡ length l' → ((c : ℕ) → c < n → cell n l'' i c ≡ f i c) → ((r c : ℕ) → (r < i) ⊎ (i < r) → c < n → cell n l'' r c ≡ cell n l' r c) → Rows m n f l (i + 1) l''
-rows-more m n f l i l' l'' w len row others =
-    record {
-      long = len ∙ w .long;
-      new = λ r c h g. ⊎-elim (λ q. subst (λ (k : ℕ). cell n l'' k c ≡ f k c) (sym q) (row c g)) (λ k. others r c (inl k) g ∙ w .new r c k g) (eq-or-lt-of-le (let z : r ≤ i = omega arith in z));
-      old = λ r c h h' g. others r c (inr (let z : i < r = omega arith in z)) g ∙ w .old r c (omega arith) h' g;
-    }
-
--- two places of different rows
-apart : (n r i c c' : ℕ) → (r < i) ⊎ (i < r) → c < n → c' < n → r * n + c ≡ i * n + c' → ⊥
-apart n r i c c' d h h' q = ⊎-elim (λ z. let u : r * n + c < i * n = digits-lt z h in omega arith) (λ z. let u : i * n + c' < r * n = digits-lt z h' in omega arith) d
-
 module _ (m n j : ℕ) (x : Float) (t l : List Float) (size : length l ≡ m * n) (wide : j < n) where
   -- the rows above i have had their step
   abbrev pub Turned : ℕ → List Float → Type 0
@@ -108,7 +91,7 @@ module _ (m n j : ℕ) (x : Float) (t l : List Float) (size : length l ≡ m * n
       (λ k. w .rest (j * n + c) (λ c' a b q. omega arith) ∙ sym (new-left j x (at t) (cell n l) j c k))
       (λ k. w .done c k h ∙ sym (new-lead j x (at t) (cell n l) c k))
       (lt-or-ge c j))
-      (λ r c d h. w .rest (r * n + c) (λ c' a b q. apart n r j c c' d h b q))
+      (λ r c d h. w .rest (r * n + c) (λ c' a b q. rows-apart n r j c c' d h b q))
 
   -- the step of a row below it: v is read from column j first, and v / x stored there last
   module _ (i : ℕ) (v : Float) (l₀ l₁ : List Float) (low : j < i) (high : i < m) (w : Turned i l₀) (lead : v ≡ cell n l₀ i j) (u : Wrote (λ c. i * n + c) (j + 1) n (λ c. less (at l₀ (i * n + c)) (times (at t c) v)) l₀ l₁) where
@@ -147,7 +130,7 @@ module _ (m n j : ℕ) (x : Float) (t l : List Float) (size : length l ≡ m * n
         (left c h)
         (λ k. ⊎-elim (λ q. subst (λ (z : ℕ). cell n (set l₁ p y) i z ≡ New j x (at t) e i z) q stored) (right c h) (eq-or-lt-of-le k))
         (lt-or-ge c j))
-        (λ r c d h. getD-set-other l₁ p (r * n + c) y nan (λ q. apart n r i c j d h wide q) ∙ u .rest (r * n + c) (λ c' a b q. apart n r i c c' d h b q)))
+        (λ r c d h. getD-set-other l₁ p (r * n + c) y nan (λ q. rows-apart n r i c j d h wide q) ∙ u .rest (r * n + c) (λ c' a b q. rows-apart n r i c c' d h b q)))
 
   pub turned-end : (l' : List Float) → Turned m l' → l' ≡ reflect m n j x (at t) l
   unfolding reflect

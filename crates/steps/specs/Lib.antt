@@ -7,3 +7,4 @@ pub mod Table
 pub mod Wrote
 pub mod Space
 pub mod Glue
+pub mod Rows

@@ -1,12 +1,12 @@
 -- A workspace, its parts, and what clearing and swapping leave. Assumes nothing.
 use mathlib.Core.Path.{_≡_, refl, sym, ap, _∙_, subst}
-use mathlib.Core.List.{List, [], _∷_, _++_}
+use mathlib.Core.List.{List, [], _∷_, _++_, append-nil}
 use Prim.Native.Nat.{ℕ, zero, suc, _+_, _-_, _*_, _≤_, _<_}
 use native.Mathlib.Nat.{not-suc-le-zero, le-of-suc-le-suc, zero-add, suc-add, add-zero}
 use native.Mathlib.Numerals.{add-one}
 use native.Mathlib.Omega.{arith}
 use lib.ListN.{length, set, length-set, take, drop, replicate, length-append, length-take, length-drop, getD, List·getD-append, take-append-drop}
-use lib.Seq.{take-at, drop-at, take-append-le, drop-append-le, drop-drop, drop-append-add, set-append-left, getD-append-add, getD-take, getD-drop}
+use lib.Seq.{take-at, drop-at, take-append-le, drop-append-le, drop-drop, drop-append-add, set-append-left, getD-append-add, getD-take, getD-drop, drop-length}
 use lib.Ieee.{Float, nan}
 use Rattle.steps.specs.Num.{+zero, at}
 use Rattle.steps.specs.Table.{tab, is-tab}
@@ -128,3 +128,8 @@ pub part-tab : (a n : ℕ) (s : List Float) → a + n ≤ length s → part a (a
 part-tab a n s h =
     let e : a + n - a ≡ n = omega arith in
     rw e (is-tab n (λ i. at s (a + i)) (take n (drop a s)) nan (simp (length-take, length-drop) (omega arith)) (λ i k. getD-take n (drop a s) i nan k ∙ getD-drop a s i nan))
+
+-- clearing the whole
+pub cleared-all : (k : ℕ) (s : List Float) → length s ≡ k → cleared k s ≡ replicate k +zero
+unfolding cleared
+cleared-all k s e = rw (← e, drop-length, append-nil)

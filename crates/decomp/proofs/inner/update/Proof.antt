@@ -8,7 +8,8 @@ use lib.Ieee.{Float}
 use denote.Ref.{now}
 use Rattle.steps.specs.Num.{at, cell}
 use Rattle.steps.specs.Table.{row-fits}
-use Rattle.decomp.proofs.Rows.{New, Rows, turned-lead, turned-row, turned-end}
+use Rattle.steps.specs.Rows.{Rows}
+use Rattle.decomp.proofs.Rows.{New, turned-lead, turned-row, turned-end}
 use Rattle.decomp.proofs.inner.update.Statement.{statement}
 use Rattle.decomp.proofs.inner.update.Tie as tie
 
