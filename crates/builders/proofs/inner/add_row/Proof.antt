@@ -27,7 +27,7 @@ slice-read-sums c = omega arith
 at-place-requires : tie.Need-at-place-requires Inv-loop μ-loop
 at-place-requires c κs =
     let start = c .before .before .before .before .before .before in
-    (start .pre .0, start .pre .1, c .before .loop-test .taken)
+    (start .pre .0, start .pre .1, omega arith)
 
 mul-sums-2 : tie.Need-mul-sums-2 Inv-loop μ-loop
 mul-sums-2 c = omega arith
