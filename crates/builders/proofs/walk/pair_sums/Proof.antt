@@ -7,8 +7,8 @@ use Rattle.steps.specs.Num.{cell}
 use Rattle.builders.specs.Products.{gram}
 use Rattle.builders.specs.Inner.{listed, Held}
 use Rattle.builders.proofs.Walks.{pairs-none, pairs-more}
-use Rattle.builders.proofs.inner.pair_sums.Statement.{statement}
-use Rattle.builders.proofs.inner.pair_sums.Tie as tie
+use Rattle.builders.proofs.walk.pair_sums.Statement.{statement}
+use Rattle.builders.proofs.walk.pair_sums.Tie as tie
 
 abbrev Inv-loop : tie.InvT-loop
 Inv-loop theta n-rows n-cols terms k p sums₀ i₀ sums i =

@@ -7,8 +7,8 @@ use Rattle.steps.specs.Num.{at, cell}
 use Rattle.builders.specs.Products.{moment}
 use Rattle.builders.specs.Inner.{listed, Held}
 use Rattle.builders.proofs.Walks.{targets-none, targets-more}
-use Rattle.builders.proofs.inner.target_sums.Statement.{statement}
-use Rattle.builders.proofs.inner.target_sums.Tie as tie
+use Rattle.builders.proofs.walk.target_sums.Statement.{statement}
+use Rattle.builders.proofs.walk.target_sums.Tie as tie
 
 abbrev Inv-loop : tie.InvT-loop
 Inv-loop theta target n-rows n-cols terms k sums₀ i₀ sums i =

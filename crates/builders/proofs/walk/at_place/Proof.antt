@@ -2,8 +2,8 @@
 use native.Mathlib.Omega.{arith}
 use lib.Arith.{digits-lt}
 use Rattle.builders.specs.Inner.{listed}
-use Rattle.builders.proofs.inner.at_place.Statement.{statement}
-use Rattle.builders.proofs.inner.at_place.Tie as tie
+use Rattle.builders.proofs.walk.at_place.Statement.{statement}
+use Rattle.builders.proofs.walk.at_place.Tie as tie
 
 mul-t9 : tie.Need-mul-t9
 mul-t9 c = omega arith

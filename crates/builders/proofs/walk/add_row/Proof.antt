@@ -5,8 +5,8 @@ use denote.Ref.{now}
 use Rattle.steps.specs.Num.{plus, times, at, cell}
 use Rattle.steps.specs.Wrote.{Wrote, wrote-none, wrote-turn, wrote-end}
 use Rattle.builders.specs.Inner.{listed}
-use Rattle.builders.proofs.inner.add_row.Statement.{statement}
-use Rattle.builders.proofs.inner.add_row.Tie as tie
+use Rattle.builders.proofs.walk.add_row.Statement.{statement}
+use Rattle.builders.proofs.walk.add_row.Tie as tie
 
 abbrev Inv-loop : tie.InvT-loop
 Inv-loop theta n-rows n-cols terms k i x lo sums₀ q₀ sums q =
