@@ -1,49 +1,90 @@
--- A walk over theta's columns meets the terms of a support in the order of their reduced places. Assumes nothing.
-use mathlib.Core.Path.{_≡_, sym, ap, _∙_}
+-- A walk over theta's columns meets the terms of a support in the order of their reduced places; a table lists them. Assumes nothing.
+use mathlib.Core.Path.{_≡_, refl, sym, ap, _∙_}
+use mathlib.Core.Logic.{⊎-elim}
 use mathlib.Core.Bool.{true, false}
-use Prim.Native.Nat.{ℕ, _+_, _^_, _≤_, _<_}
+use mathlib.Core.List.{List}
+use Prim.Native.Nat.{ℕ, _+_, _*_, _^_, _≤_, _<_}
+use native.Mathlib.Nat.{eq-or-lt-of-le}
 use native.Mathlib.Omega.{arith}
 use lib.Count.{ones}
+use lib.ListN.{length, set, getD}
+use lib.Seq.{getD-set-same, getD-set-other}
 use lib.Ieee.{Float}
 use Rattle.steps.specs.Num.{Entry}
+use Rattle.steps.specs.Table.{tab-cong, table-cong}
 use Rattle.support.specs.Word.{has, place, term}
 use Rattle.support.specs.WordLaws.{passed, has-lt}
-use Rattle.support.specs.CountLaws.{place-is, place-lt, place-beyond, count-none, count-mono, count-take, count-skip}
-use Rattle.support.specs.TermLaws.{term-of-place}
-use Rattle.builders.specs.Products.{gram, moment, columns}
+use Rattle.support.specs.CountLaws.{ones-is, place-is, place-lt, place-beyond, count-le, count-none, count-take, count-skip}
+use Rattle.support.specs.TermLaws.{term-is, term-of-place}
+use Rattle.builders.specs.Products.{gram, moment, damped, jtj-matrix, jtr-column, columns}
+use Rattle.builders.specs.ProductLaws.{gram-cong, moment-cong}
+use Rattle.builders.specs.Inner.{Within, Lists, Listed, listed}
 
 -- before the first column no place is passed; a term passes one, another column none; after the last column all are passed
-pub place-none : (w : ℕ) → place w 0 ≡ 0
+place-none : (w : ℕ) → place w 0 ≡ 0
 place-none w = place-is w 0 ∙ count-none (has w)
 
-pub place-take : (w j : ℕ) → has w j ≡ true → place w (j + 1) ≡ place w j + 1
+place-take : (w j : ℕ) → has w j ≡ true → place w (j + 1) ≡ place w j + 1
 place-take w j h = place-is w (j + 1) ∙ count-take (has w) j h ∙ ap (λ (p : ℕ). p + 1) (sym (place-is w j))
 
-pub place-skip : (w j : ℕ) → has w j ≡ false → place w (j + 1) ≡ place w j
+place-skip : (w j : ℕ) → has w j ≡ false → place w (j + 1) ≡ place w j
 place-skip w j h = place-is w (j + 1) ∙ count-skip (has w) j h ∙ sym (place-is w j)
 
-pub place-mono : (w i j : ℕ) → i ≤ j → place w i ≤ place w j
-place-mono w i j h = omega (arith, place-is w i, place-is w j, count-mono (has w) i j h)
+-- the places that the walk has passed at column j are listed
+pub record ListedTo (n w j : ℕ) (table : List ℕ) : Type 0 where
+  pub each : (p : ℕ) → p < place w j → getD table p 0 ≡ term n w p
 
 module _ (n w : ℕ) (terms : w < 2 ^ n) where
-  pub place-all : (j : ℕ) → j ≤ n → n ≤ j → place w j ≡ ones w
-  place-all j h h' = place-beyond w n j terms h'
+  pub count-few : ones w ≤ n
+  count-few = omega (arith, ones-is w n terms, count-le (has w) n)
 
   pub place-below : (j : ℕ) → has w j ≡ true → place w j < ones w
   place-below j h = place-lt w n j terms (passed h)
 
-  pub term-below : (j : ℕ) → has w j ≡ true → j < n
-  term-below j h = has-lt w n j terms (passed h)
-
-  -- the column at a term's place is the term's own
+  -- the term of a term's place is that term
   at-place : (j : ℕ) → has w j ≡ true → j ≡ term n w (place w j)
-  at-place j h = sym (ap (term n w) (place-is w j) ∙ term-of-place n w j (term-below j h) (passed h))
+  at-place j h = sym (ap (term n w) (place-is w j) ∙ term-of-place n w j (has-lt w n j terms (passed h)) (passed h))
 
-  -- so the sums of terms are the sums of their places
-  pub pair-at : (e : Entry) (rows a b : ℕ) → has w a ≡ true → has w b ≡ true → gram e rows a b ≡ gram (columns n w e) rows (place w a) (place w b)
-  unfolding gram columns
-  pair-at e rows a b h k = ap (λ (x : ℕ). gram e rows x b) (at-place a h) ∙ ap (gram e rows (term n w (place w a))) (at-place b k)
+  pub list-none : (table : List ℕ) → ListedTo n w 0 table
+  list-none table = record { each = λ p h. absurd (omega (arith, place-none w)) }
 
-  pub moment-at : (e : Entry) (t : ℕ → Float) (rows a : ℕ) → has w a ≡ true → moment e t rows a ≡ moment (columns n w e) t rows (place w a)
-  unfolding moment columns
-  moment-at e t rows a h = ap (moment e t rows) (at-place a h)
+  pub list-take : (j : ℕ) (table : List ℕ) → has w j ≡ true → place w j < length table → ListedTo n w j table → ListedTo n w (j + 1) (set table (place w j) j)
+  list-take j table h room l =
+      record {
+        each = λ p b. ⊎-elim
+            (λ (e : p ≡ place w j). rw e (getD-set-same table (place w j) j 0 room ∙ at-place j h))
+            (λ (b : p < place w j). getD-set-other table (place w j) p j 0 (λ e. omega arith) ∙ l .each p b)
+            (eq-or-lt-of-le (let z : p ≤ place w j = omega (arith, place-take w j h) in z));
+      }
+
+  pub list-skip : (j : ℕ) (table : List ℕ) → has w j ≡ false → ListedTo n w j table → ListedTo n w (j + 1) table
+  list-skip j table h l = record { each = λ p b. l .each p (omega (arith, place-skip w j h)) }
+
+  pub list-end : (j : ℕ) (table : List ℕ) → n ≤ j → ListedTo n w j table → Lists n w table
+  list-end j table h l = record { each = λ p b. l .each p (omega (arith, place-beyond w n j terms h)) }
+
+-- the columns that a table of the support lists are the support's columns
+module _ (theta : List Float) (rows n w : ℕ) (table : List ℕ) (sizes : Within theta rows n w) (l : Lists n w table) where
+  pub listed-in : (k : ℕ) → k ≡ ones w → n ≤ length table → Listed rows n k table theta
+  listed-in k e room =
+      record {
+        few = omega (arith, count-few n w (sizes .terms), sizes .few-columns);
+        long = omega (arith, count-few n w (sizes .terms));
+        matrix = sizes .matrix;
+        each = λ p h.
+            let b : p < ones w = omega arith in
+            omega (arith, l .each p b, term-is n w p (omega (arith, ones-is w n (sizes .terms))) .below);
+      }
+
+  same-column : (e : Entry) (i p : ℕ) → p < ones w → listed table e i p ≡ columns n w e i p
+  unfolding listed columns
+  same-column e i p h = ap (e i) (l .each p h)
+
+  pub jtj-listed : (damp : Float → Float) (e : Entry) → jtj-matrix damp (ones w) (gram (listed table e) rows) ≡ jtj-matrix damp (ones w) (gram (columns n w e) rows)
+  unfolding jtj-matrix damped
+  jtj-listed damp e =
+      table-cong (ones w) (ones w) _ _ (λ p q hp hq. rw (gram-cong (listed table e) (columns n w e) rows p q (λ i h. same-column e i p hp) (λ i h. same-column e i q hq)))
+
+  pub jtr-listed : (e : Entry) (t : ℕ → Float) → jtr-column (ones w) (moment (listed table e) t rows) ≡ jtr-column (ones w) (moment (columns n w e) t rows)
+  unfolding jtr-column
+  jtr-listed e t = tab-cong (ones w) _ _ (λ p hp. moment-cong (listed table e) (columns n w e) t rows p (λ i h. same-column e i p hp))

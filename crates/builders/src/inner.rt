@@ -1,43 +1,20 @@
-// Sums over the columns of a support, from theta itself. Each function may require what its caller tested.
+// jtj and jtr of the columns of a support, from theta itself. Each function may require what its caller tested.
 ghost use mathlib.Core.Path.{_≡_};
-ghost use mathlib.Core.Bool.{true};
-ghost use Prim.Native.Nat.{_+_, _*_, _<_};
+ghost use Prim.Native.Nat.{_+_, _*_, _≤_, _<_};
 ghost use lib.Count.{ones};
 ghost use lib.ListN.{length, set};
 ghost use Rattle.steps.specs.Num.{at, cell as cell-of};
 ghost use Rattle.steps.specs.Table.{table};
-ghost use Rattle.support.specs.Word.{has, place};
 ghost use Rattle.builders.specs.Products.{gram, moment, ridge, jtj-matrix, jtr-column, columns};
-ghost use Rattle.builders.specs.Inner.{Within, RowDone};
+ghost use Rattle.builders.specs.Inner.{Within, Listed, listed, RowDone};
+use crate::walk::list_terms;
+use crate::walk::pair_sums;
+use crate::walk::target_sums;
 use slices::inner::cell;
+use slices::inner::clear;
 use slices::inner::put;
 use support::Col;
 use support::Support;
-use support::Term;
-
-// The products of two columns of theta, summed over the rows.
-fn pair_sum(theta: &[f64], n_rows: usize, n_cols: usize, p: Term, q: Term) -> f64
-    requires { ⌜ (length (now theta) ≡ «n_rows» * «n_cols») × (p .0 < «n_cols») × (q .0 < «n_cols») ⌝ }
-    ensures { λ r. ⌜ r ≡ gram (cell-of «n_cols» (now (theta .entry))) «n_rows» (p .0) (q .0) ⌝ }
-{
-    let mut sum = 0.0;
-    for i in 0..n_rows {
-        sum = sum + cell(theta, n_cols, i, p.0) * cell(theta, n_cols, i, q.0);
-    }
-    sum
-}
-
-// The products of a column of theta and the target, summed over the rows.
-fn target_sum(theta: &[f64], target: &[f64], n_rows: usize, n_cols: usize, p: Term) -> f64
-    requires { ⌜ (length (now theta) ≡ «n_rows» * «n_cols») × (length (now target) ≡ «n_rows») × (p .0 < «n_cols») ⌝ }
-    ensures { λ r. ⌜ r ≡ moment (cell-of «n_cols» (now (theta .entry))) (at (now (target .entry))) «n_rows» (p .0) ⌝ }
-{
-    let mut total = 0.0;
-    for i in 0..n_rows {
-        total = total + cell(theta, n_cols, i, p.0) * target[i];
-    }
-    total
-}
 
 // One sum goes to both (p,q) and (q,p) of a matrix of k columns.
 fn put_both(out: &mut [f64], k: usize, p: Col, q: Col, sum: f64)
@@ -48,32 +25,48 @@ fn put_both(out: &mut [f64], k: usize, p: Col, q: Col, sum: f64)
     put(out, k, q.0, p.0, sum);
 }
 
-// The pair sums of the support's term t with its terms from t on: the row and the column of t's reduced place.
-fn pair_row(theta: &[f64], n_rows: usize, n_cols: usize, support: Support, t: Term, out: &mut [f64])
-    requires { ⌜ Within (now theta) «n_rows» «n_cols» (support .0) × (length (now out) ≡ ones (support .0) * ones (support .0)) × (has (support .0) (t .0) ≡ true) ⌝ }
-    ensures { λ _. ⌜ RowDone (gram (columns «n_cols» (support .0) (cell-of «n_cols» (now (theta .entry)))) «n_rows») (ones (support .0)) (place (support .0) (t .0)) (ones (support .0)) (now (out .entry)) (now (out .exit)) ⌝ }
+// The sums of the places from p on go to the row and the column of p.
+fn put_row(sums: &[f64], k: usize, p: Col, out: &mut [f64])
+    requires { ⌜ (k ≤ length (now sums)) × (p .0 < k) × (length (now out) ≡ k * k) ⌝ }
+    ensures { λ _. ⌜ RowDone (at (now (sums .entry))) k (p .0) k (now (out .entry)) (now (out .exit)) ⌝ }
 {
-    let k = support.count();
-    let p = support.place(t);
-    for j in t.0..n_cols {
-        let u = Term(j);
-        if support.contains(u) {
-            let sum = pair_sum(theta, n_rows, n_cols, t, u);
-            put_both(out, k, p, support.place(u), sum);
-        }
+    for q in p.0..k {
+        put_both(out, k, p, Col(q), sums[q]);
     }
 }
 
-// The pair sums of all terms of the support.
-fn pair_sums(theta: &[f64], n_rows: usize, n_cols: usize, support: Support, out: &mut [f64])
-    requires { ⌜ Within (now theta) «n_rows» «n_cols» (support .0) × (length (now out) ≡ ones (support .0) * ones (support .0)) ⌝ }
-    ensures { λ _. ⌜ now (out .exit) ≡ table (ones (support .0)) (ones (support .0)) (gram (columns «n_cols» (support .0) (cell-of «n_cols» (now (theta .entry)))) «n_rows») ⌝ }
+// The row and the column of p: the pair sums from +0.0.
+fn pair_row(
+    theta: &[f64],
+    n_rows: usize,
+    n_cols: usize,
+    terms: &[usize],
+    k: usize,
+    p: Col,
+    out: &mut [f64],
+)
+    requires { ⌜ Listed «n_rows» «n_cols» k (now terms) (now theta) × (p .0 < k) × (length (now out) ≡ k * k) ⌝ }
+    ensures { λ _. ⌜ RowDone (gram (listed (now (terms .entry)) (cell-of «n_cols» (now (theta .entry)))) «n_rows» (p .0)) k (p .0) k (now (out .entry)) (now (out .exit)) ⌝ }
 {
-    for j in 0..n_cols {
-        let t = Term(j);
-        if support.contains(t) {
-            pair_row(theta, n_rows, n_cols, support, t, out);
-        }
+    let mut sums = [0.0; 64];
+    pair_sums(theta, n_rows, n_cols, terms, k, p, &mut sums);
+    put_row(&sums, k, p, out);
+}
+
+// Every row and column.
+fn pair_rows(
+    theta: &[f64],
+    n_rows: usize,
+    n_cols: usize,
+    terms: &[usize],
+    k: usize,
+    out: &mut [f64],
+)
+    requires { ⌜ Listed «n_rows» «n_cols» k (now terms) (now theta) × (length (now out) ≡ k * k) ⌝ }
+    ensures { λ _. ⌜ now (out .exit) ≡ table k k (gram (listed (now (terms .entry)) (cell-of «n_cols» (now (theta .entry)))) «n_rows») ⌝ }
+{
+    for p in 0..k {
+        pair_row(theta, n_rows, n_cols, terms, k, Col(p), out);
     }
 }
 
@@ -100,8 +93,11 @@ pub fn jtj_of(
     requires { ⌜ Within (now theta) «n_rows» «n_cols» (support .0) × (length (now out) ≡ ones (support .0) * ones (support .0)) ⌝ }
     ensures { λ _. ⌜ now (out .exit) ≡ jtj-matrix (ridge lambda) (ones (support .0)) (gram (columns «n_cols» (support .0) (cell-of «n_cols» (now (theta .entry)))) «n_rows») ⌝ }
 {
-    pair_sums(theta, n_rows, n_cols, support, out);
-    damp(out, support.count(), lambda);
+    let mut terms = [0; 64];
+    list_terms(support, n_cols, &mut terms);
+    let k = support.count();
+    pair_rows(theta, n_rows, n_cols, &terms, k, out);
+    damp(out, k, lambda);
 }
 
 // jtr of the columns of a support.
@@ -116,11 +112,9 @@ pub fn jtr_of(
     requires { ⌜ Within (now theta) «n_rows» «n_cols» (support .0) × (length (now target) ≡ «n_rows») × (length (now out) ≡ ones (support .0)) ⌝ }
     ensures { λ _. ⌜ now (out .exit) ≡ jtr-column (ones (support .0)) (moment (columns «n_cols» (support .0) (cell-of «n_cols» (now (theta .entry)))) (at (now (target .entry))) «n_rows») ⌝ }
 {
-    for j in 0..n_cols {
-        let t = Term(j);
-        if support.contains(t) {
-            let p = support.place(t).0;
-            out[p] = target_sum(theta, target, n_rows, n_cols, t);
-        }
-    }
+    let mut terms = [0; 64];
+    list_terms(support, n_cols, &mut terms);
+    let k = support.count();
+    clear(out, k);
+    target_sums(theta, target, n_rows, n_cols, &terms, k, out);
 }

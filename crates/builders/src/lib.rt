@@ -1,5 +1,6 @@
 // The sums of the normal equations.
 pub mod inner;
+mod walk;
 
 ghost use Rattle.builders.specs.Calls.{JtjCall, JtrCall};
 use refusal::Answer;

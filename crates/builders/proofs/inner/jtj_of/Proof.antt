@@ -1,20 +1,39 @@
--- `jtj_of` meets its contract: the pair sums, then damped.
+-- `jtj_of` meets its contract: the pair sums of the listed columns, then damped.
 use mathlib.Core.Path.{_∙_}
+use native.Mathlib.Omega.{arith}
 use borrow.Author.Needs.{needs}
+use Rattle.builders.proofs.Places.{listed-in, jtj-listed}
 use Rattle.builders.proofs.Damping.{damped-table}
 use Rattle.builders.proofs.inner.jtj_of.Statement.{statement}
 use Rattle.builders.proofs.inner.jtj_of.Tie as tie
 
-pair-sums-requires : tie.Need-pair-sums-requires
-pair-sums-requires c κs = search needs
+slice-aggregate-list-terms : tie.Need-slice-aggregate-list-terms
+slice-aggregate-list-terms c = search needs
+
+list-terms-requires : tie.Need-list-terms-requires
+list-terms-requires c κs = let sizes = c .before .before .before .pre .0 in (sizes .terms, sizes .few-columns)
 
 count-requires : tie.Need-count-requires
 count-requires c κs = tt
 
+slice-aggregate-pair-rows : tie.Need-slice-aggregate-pair-rows
+slice-aggregate-pair-rows c = search needs
+
+pair-rows-requires : tie.Need-pair-rows-requires
+pair-rows-requires c κs =
+    let counted = c .before .before in
+    let list = counted .before .before .list-terms in
+    let start = counted .before .before .before .before .before .before in
+    let sizes = start .pre .0 in (
+      listed-in _ _ _ _ _ sizes (list .ensures) _ (counted .count .ensures) (omega (arith, list .kept .1 .1 .0, sizes .few-columns)),
+      rw (counted .count .ensures) (start .pre .1),
+    )
+
 damp-requires : tie.Need-damp-requires
 damp-requires c κs =
-    let sums = c .before .before .before .before in
-    rw (c .count .ensures) (sums .pair-sums .kept .1 .1 .1 .1 .0 ∙ sums .before .before .before .before .pre .1)
+    let rows = c .before .before .before in
+    let counted = rows .before .before .before in
+    rw (counted .count .ensures) (rows .pair-rows .kept .1 .1 .1 .1 .1 .0 ∙ counted .before .before .before .before .before .before .pre .1)
 
 same-length : tie.Need-same-length
 same-length c = search needs
@@ -22,7 +41,13 @@ same-length c = search needs
 returns : tie.Need-returns
 returns c =
     let done = c .before .before in
-    rw (done .damp .ensures, done .before .count .ensures, done .before .before .before .before .before .pair-sums .ensures) (damped-table _ _ _)
+    let rows = done .before .before .before .before in
+    let counted = rows .before .before .before in
+    let list = counted .before .before .list-terms in
+    let sizes = counted .before .before .before .before .before .before .pre .0 in
+    rw (done .damp .ensures, rows .pair-rows .ensures, damped-table, counted .count .ensures) (jtj-listed _ _ _ _ _ sizes (list .ensures) _ _)
 
 pub jtj-of-spec : {M : Type 1} → statement M
-jtj-of-spec = tie.close (tie.spec pair-sums-requires count-requires damp-requires same-length returns)
+jtj-of-spec =
+    tie.close
+    (tie.spec slice-aggregate-list-terms list-terms-requires count-requires slice-aggregate-pair-rows pair-rows-requires damp-requires same-length returns)
