@@ -109,8 +109,8 @@ fn chol_back(l: &[f64], b: &mut [f64], n: usize)
     let mut i = n;
     while i > 0 {
         i -= 1;
-        let s = column_sum(l, b, n, i);
-        b[i] = s / cell(l, n, i, i);
+        let rest = column_sum(l, b, n, i);
+        b[i] = rest / cell(l, n, i, i);
     }
 }
 
