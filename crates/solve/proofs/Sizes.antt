@@ -1,13 +1,13 @@
 -- The sizes of a square solver as its tests found them, and what each call then answers and leaves. Assumes nothing.
-use mathlib.Core.Path.{_≡_, refl, ap}
+use mathlib.Core.Path.{_≡_}
 use mathlib.Core.List.{List}
 use Prim.Native.Nat.{ℕ, _*_, _≤_, _<_}
 use lib.ListN.{length}
 use lib.Ieee.{Float}
 use borrow.Author.Tests.{lt-ltb, le-ltb, eq-eqb, ne-eqb}
-use Rattle.steps.specs.Loops.{left}
+use Rattle.steps.specs.Loops.{Way, left}
 use Rattle.steps.specs.Space.{cleared}
-use Rattle.refusal.specs.Answers.{told, ended}
+use Rattle.refusal.specs.Answers.{if-done, and-then, told, ended}
 use Rattle.refusal.specs.declared.Answer.{Answer}
 use Rattle.refusal.specs.declared.Answer.the-variants.{Done, Refused}
 use Rattle.refusal.specs.declared.Refusal.{Refusal}
@@ -49,36 +49,31 @@ abbrev pub answered : Refusal → Solved → Answer
 answered w S.Done = Done
 answered w (S.Refused c) = Refused w
 
--- what a solve told, by its parts
-ended-told : {X : Type 0} (w : Refusal) (r : Solved) (s : X) → answered w r ≡ ended w (told r s)
-ended-told w S.Done s = refl
-ended-told w (S.Refused c) s = refl
-
-left-told : {X : Type 0} (r : Solved) (s : X) → s ≡ left (told r s)
-left-told S.Done s = refl
-left-told (S.Refused c) s = refl
+-- what Cholesky's call and LU's say alike, over the solve and the refusal that it gives
+pub record Square (why : Refusal) (solve : Way (List Float × List Float)) (a b : List Float) (n : ℕ) (a' b' : List Float) (r : Answer) : Type 0 where
+  pub answer : r ≡ and-then (square-sizes n (length a) (length b) Done) (ended why solve)
+  pub matrix : a' ≡ if-done (square-sizes n (length a) (length b) Done) (left solve .0) a
+  pub right : b' ≡ if-done (square-sizes n (length a) (length b) Done) (left solve .1) b
 
 module _ (a b : List Float) (n : ℕ) where
   -- a call whose sizes are refused leaves all as it was
-  pub cholesky-refused : (w : Refusal) → square-sizes n (length a) (length b) Done ≡ Refused w → CholeskyCall a b n a b (Refused w)
-  cholesky-refused w e = record { answer = rw e; matrix = rw e; right = rw e }
-
-  pub lu-refused : (w : Refusal) → square-sizes n (length a) (length b) Done ≡ Refused w → LuCall a b n a b (Refused w)
-  lu-refused w e = record { answer = rw e; matrix = rw e; right = rw e }
+  pub square-refused : (why : Refusal) (solve : Way (List Float × List Float)) (w : Refusal) → square-sizes n (length a) (length b) Done ≡ Refused w → Square why solve a b n a b (Refused w)
+  square-refused why solve w e = record { answer = rw e; matrix = rw e; right = rw e }
 
   pub normal-refused : (s : List Float) (w : Refusal) → normal-sizes n (length a) (length b) (length s) ≡ Refused w → NormalCall a b n b s s (Refused w)
   normal-refused s w e = record { answer = rw e; right = rw e; space = rw e }
 
   -- an accepted one answers and leaves what its solve told
-  pub cholesky-accepted : (r : Solved) (a' b' : List Float) → square-sizes n (length a) (length b) Done ≡ Done → told r (a', b') ≡ cholesky n a b → CholeskyCall a b n a' b' (answered NotSpd r)
-  cholesky-accepted r a' b' e t =
-      let both : List Float × List Float = (a', b') in
-      record { answer = rw (e, ← t) (ended-told NotSpd r both); matrix = rw (e, ← t) (ap (λ (s : List Float × List Float). s .0) (left-told r both)); right = rw (e, ← t) (ap (λ (s : List Float × List Float). s .1) (left-told r both)) }
-
-  pub lu-accepted : (r : Solved) (a' b' : List Float) → square-sizes n (length a) (length b) Done ≡ Done → told r (a', b') ≡ lu n a b → LuCall a b n a' b' (answered SmallPivot r)
-  lu-accepted r a' b' e t =
-      let both : List Float × List Float = (a', b') in
-      record { answer = rw (e, ← t) (ended-told SmallPivot r both); matrix = rw (e, ← t) (ap (λ (s : List Float × List Float). s .0) (left-told r both)); right = rw (e, ← t) (ap (λ (s : List Float × List Float). s .1) (left-told r both)) }
+  pub square-accepted : (why : Refusal) (solve : Way (List Float × List Float)) (r : Solved) (a' b' : List Float) → square-sizes n (length a) (length b) Done ≡ Done → told r (a', b') ≡ solve → Square why solve a b n a' b' (answered why r)
+  square-accepted why solve S.Done a' b' e t = record { answer = rw (e, ← t); matrix = rw (e, ← t); right = rw (e, ← t) }
+  square-accepted why solve (S.Refused c) a' b' e t = record { answer = rw (e, ← t); matrix = rw (e, ← t); right = rw (e, ← t) }
 
   pub normal-accepted : (r : Solved) (b' s s' : List Float) → normal-sizes n (length a) (length b) (length s) ≡ Done → told r b' ≡ normal n a b → s' ≡ cleared (n * n) s → NormalCall a b n b' s s' (answered SmallPivot r)
-  normal-accepted r b' s s' e t k = record { answer = rw (e, ← t) (ended-told SmallPivot r b'); right = rw (e, ← t) (left-told r b'); space = rw (e, k) }
+  normal-accepted S.Done b' s s' e t k = record { answer = rw (e, ← t); right = rw (e, ← t); space = rw (e, k) }
+  normal-accepted (S.Refused c) b' s s' e t k = record { answer = rw (e, ← t); right = rw (e, ← t); space = rw (e, k) }
+
+  pub cholesky-call : {a' b' : List Float} {r : Answer} → Square NotSpd (cholesky n a b) a b n a' b' r → CholeskyCall a b n a' b' r
+  cholesky-call q = record { answer = q .answer; matrix = q .matrix; right = q .right }
+
+  pub lu-call : {a' b' : List Float} {r : Answer} → Square SmallPivot (lu n a b) a b n a' b' r → LuCall a b n a' b' r
+  lu-call q = record { answer = q .answer; matrix = q .matrix; right = q .right }

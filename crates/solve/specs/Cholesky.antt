@@ -1,6 +1,6 @@
 -- Cholesky, by document 01's sentences. The matrix is n by n, stored by rows, and is worked on in place. Assumes nothing.
 use Prim.Native.Nat.{ℕ, _+_, _*_}
-use mathlib.Core.Bool.{Bool, cond}
+use mathlib.Core.Bool.{cond}
 use mathlib.Core.List.{List}
 use lib.ListN.{set}
 use lib.Ieee.{Float, le}

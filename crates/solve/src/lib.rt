@@ -1,7 +1,6 @@
 // The solvers.
 pub mod inner;
 
-ghost use mathlib.Core.Path.{_≡_};
 ghost use Rattle.solve.specs.Calls.{CholeskyCall, LeastCall, LuCall, NormalCall};
 use inner::cholesky::cholesky;
 use inner::lu::lu;

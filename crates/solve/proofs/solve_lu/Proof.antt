@@ -5,28 +5,30 @@ use borrow.Author.Needs.{needs}
 use denote.Ref.{now}
 use Rattle.refusal.specs.declared.Refusal.the-variants.{SmallPivot}
 use Rattle.solve.specs.Calls.{LuCall}
-use Rattle.solve.proofs.Sizes.{many-columns, matrix-length, target-length, square-fits, answered, lu-refused, lu-accepted}
+use Rattle.solve.proofs.Sizes.{many-columns, matrix-length, target-length, square-fits, answered, square-refused, square-accepted, lu-call}
 use Rattle.solve.proofs.solve_lu.Statement.{statement}
 use Rattle.solve.proofs.solve_lu.Tie as tie
 
 -- once the solve is done or refused
-solved : (c : tie.After-slice-known4) → let start = c .before .before .before .before .before .before .before .before .before .before .before .before in let solve = c .before .before .before .before .lu in LuCall (now (start .args .a)) (now (start .args .b)) (start .args .n) (solve .last .0) (solve .last .1 .0) (answered SmallPivot (solve .result))
+solved : (c : tie.After-slice-known4) → let solve = c .before .before .before .before in let start = solve .before .before .before .before .before .before .before .before in
+    LuCall (now (start .args .a)) (now (start .args .b)) (start .args .n) (solve .lu .last .0) (solve .lu .last .1 .0) (answered SmallPivot (solve .lu .result))
 solved c =
     let solve = c .before .before .before .before in
     let tests = solve .before .before .before in
-    lu-accepted _ _ _ (solve .lu .result) _ _ (square-fits _ _ _ (tests .before .before .if1 .left) (tests .before .if2 .left) (tests .if3 .left)) (solve .lu .ensures)
+    let fits = square-fits _ _ _ (tests .before .before .if1 .left) (tests .before .if2 .left) (tests .if3 .left) in
+    lu-call _ _ _ (square-accepted _ _ _ _ _ (solve .lu .result) _ _ fits (solve .lu .ensures))
 
 returns : tie.Need-returns
-returns c = lu-refused _ _ _ _ (many-columns _ _ _ _ (c .if1 .taken))
+returns c = lu-call _ _ _ (square-refused _ _ _ _ _ _ (many-columns _ _ _ _ (c .if1 .taken)))
 
 mul-if2 : tie.Need-mul-if2
 mul-if2 c = omega (arith, mul-le-mul (c .if1 .left) (c .if1 .left))
 
 returns-2 : tie.Need-returns-2
-returns-2 c = lu-refused _ _ _ _ (matrix-length _ _ _ _ (c .before .if1 .left) (c .if2 .taken))
+returns-2 c = lu-call _ _ _ (square-refused _ _ _ _ _ _ (matrix-length _ _ _ _ (c .before .if1 .left) (c .if2 .taken)))
 
 returns-3 : tie.Need-returns-3
-returns-3 c = lu-refused _ _ _ _ (target-length _ _ _ _ (c .before .before .if1 .left) (c .before .if2 .left) (c .if3 .taken))
+returns-3 c = lu-call _ _ _ (square-refused _ _ _ _ _ _ (target-length _ _ _ _ (c .before .before .if1 .left) (c .before .if2 .left) (c .if3 .taken)))
 
 lu-requires : tie.Need-lu-requires
 lu-requires c κs = search needs

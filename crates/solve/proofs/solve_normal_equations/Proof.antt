@@ -1,10 +1,10 @@
 -- `solve_normal_equations` meets its contract: a refusal of sizes at each test, else what the solve told, and the workspace cleared.
-use mathlib.Core.Path.{_≡_, refl, _∙_}
+use mathlib.Core.Path.{_∙_}
 use Prim.Native.Nat.{_*_}
 use native.Mathlib.Nat.{mul-le-mul}
 use native.Mathlib.Omega.{arith}
 use borrow.Author.Needs.{needs}
-use lib.ListN.{length, length-take}
+use lib.ListN.{length-take}
 use denote.Ref.{now}
 use Rattle.steps.specs.Space.{withPart, cleared-with}
 use Rattle.refusal.specs.declared.Refusal.the-variants.{SmallPivot}
@@ -14,7 +14,8 @@ use Rattle.solve.proofs.solve_normal_equations.Statement.{statement}
 use Rattle.solve.proofs.solve_normal_equations.Tie as tie
 
 -- once the workspace is cleared
-solved : (c : tie.After-slice-known5) → let start = c .before .before .before .before .before .before .before .before .before .before .before .before .before .before .before .before .before .before in let solve = c .before .before .before .before .before .before .before .before .normal-equations in NormalCall (now (start .args .a)) (now (start .args .b)) (start .args .n) (solve .last .1 .0) (now (start .args .workspace)) (c .before .before .clear .last .0) (answered SmallPivot (solve .result))
+solved : (c : tie.After-slice-known5) → let solve = c .before .before .before .before .before .before .before .before in let start = solve .before .before .before .before .before .before .before .before .before .before in
+    NormalCall (now (start .args .a)) (now (start .args .b)) (start .args .n) (solve .normal-equations .last .1 .0) (now (start .args .workspace)) (c .before .before .clear .last .0) (answered SmallPivot (solve .normal-equations .result))
 unfolding withPart
 solved c =
     let solve = c .before .before .before .before .before .before .before .before in

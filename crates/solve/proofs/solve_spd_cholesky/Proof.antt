@@ -5,28 +5,30 @@ use borrow.Author.Needs.{needs}
 use denote.Ref.{now}
 use Rattle.refusal.specs.declared.Refusal.the-variants.{NotSpd}
 use Rattle.solve.specs.Calls.{CholeskyCall}
-use Rattle.solve.proofs.Sizes.{many-columns, matrix-length, target-length, square-fits, answered, cholesky-refused, cholesky-accepted}
+use Rattle.solve.proofs.Sizes.{many-columns, matrix-length, target-length, square-fits, answered, square-refused, square-accepted, cholesky-call}
 use Rattle.solve.proofs.solve_spd_cholesky.Statement.{statement}
 use Rattle.solve.proofs.solve_spd_cholesky.Tie as tie
 
 -- once the solve is done or refused
-solved : (c : tie.After-slice-known4) → let start = c .before .before .before .before .before .before .before .before .before .before .before .before in let solve = c .before .before .before .before .cholesky in CholeskyCall (now (start .args .a)) (now (start .args .b)) (start .args .n) (solve .last .0) (solve .last .1 .0) (answered NotSpd (solve .result))
+solved : (c : tie.After-slice-known4) → let solve = c .before .before .before .before in let start = solve .before .before .before .before .before .before .before .before in
+    CholeskyCall (now (start .args .a)) (now (start .args .b)) (start .args .n) (solve .cholesky .last .0) (solve .cholesky .last .1 .0) (answered NotSpd (solve .cholesky .result))
 solved c =
     let solve = c .before .before .before .before in
     let tests = solve .before .before .before in
-    cholesky-accepted _ _ _ (solve .cholesky .result) _ _ (square-fits _ _ _ (tests .before .before .if1 .left) (tests .before .if2 .left) (tests .if3 .left)) (solve .cholesky .ensures)
+    let fits = square-fits _ _ _ (tests .before .before .if1 .left) (tests .before .if2 .left) (tests .if3 .left) in
+    cholesky-call _ _ _ (square-accepted _ _ _ _ _ (solve .cholesky .result) _ _ fits (solve .cholesky .ensures))
 
 returns : tie.Need-returns
-returns c = cholesky-refused _ _ _ _ (many-columns _ _ _ _ (c .if1 .taken))
+returns c = cholesky-call _ _ _ (square-refused _ _ _ _ _ _ (many-columns _ _ _ _ (c .if1 .taken)))
 
 mul-if2 : tie.Need-mul-if2
 mul-if2 c = omega (arith, mul-le-mul (c .if1 .left) (c .if1 .left))
 
 returns-2 : tie.Need-returns-2
-returns-2 c = cholesky-refused _ _ _ _ (matrix-length _ _ _ _ (c .before .if1 .left) (c .if2 .taken))
+returns-2 c = cholesky-call _ _ _ (square-refused _ _ _ _ _ _ (matrix-length _ _ _ _ (c .before .if1 .left) (c .if2 .taken)))
 
 returns-3 : tie.Need-returns-3
-returns-3 c = cholesky-refused _ _ _ _ (target-length _ _ _ _ (c .before .before .if1 .left) (c .before .if2 .left) (c .if3 .taken))
+returns-3 c = cholesky-call _ _ _ (square-refused _ _ _ _ _ _ (target-length _ _ _ _ (c .before .before .if1 .left) (c .before .if2 .left) (c .if3 .taken)))
 
 cholesky-requires : tie.Need-cholesky-requires
 cholesky-requires c κs = search needs

@@ -1,6 +1,6 @@
 // Cholesky: the factor, column by column, then forward and back substitution.
 ghost use mathlib.Core.Path.{_≡_};
-ghost use Prim.Native.Nat.{ℕ, _+_, _*_, _≤_, _<_};
+ghost use Prim.Native.Nat.{_+_, _*_, _≤_, _<_};
 ghost use lib.ListN.{length};
 ghost use Rattle.steps.specs.Num.{times, at, cell};
 ghost use Rattle.steps.specs.Sums.{less-sum};
@@ -109,8 +109,8 @@ fn chol_back(l: &[f64], b: &mut [f64], n: usize)
     let mut i = n;
     while i > 0 {
         i -= 1;
-        let s = column_sum(l, b, n, i);
-        b[i] = s / cell(l, n, i, i);
+        let rest = column_sum(l, b, n, i);
+        b[i] = rest / cell(l, n, i, i);
     }
 }
 

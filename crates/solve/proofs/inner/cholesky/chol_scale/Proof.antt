@@ -1,6 +1,6 @@
 -- `chol_scale` meets its contract. The loop's invariant: s is the largest of 1 and the magnitudes passed.
 use mathlib.Core.Path.{_≡_, sym}
-use Prim.Native.Nat.{ℕ, _-_, _≤_, _<_}
+use Prim.Native.Nat.{_-_, _≤_}
 use native.Mathlib.Omega.{arith}
 use lib.Arith.{digits-lt}
 use borrow.Author.Needs.{needs}

@@ -1,5 +1,5 @@
 -- `cholesky` meets its contract: the factor, then both substitutions; a refusal leaves b as it was.
-use mathlib.Core.Path.{_≡_, _∙_}
+use mathlib.Core.Path.{_∙_}
 use borrow.Author.Needs.{needs}
 use Rattle.solve.proofs.Ends.{cholesky-stops, cholesky-goes}
 use Rattle.solve.proofs.inner.cholesky.cholesky.Statement.{statement}

@@ -1,6 +1,6 @@
 -- `cholesky_factor` meets its contract. The loop's invariant: the columns before j went as the rule says, and left the matrix as it is.
 use mathlib.Core.Path.{_≡_, sym, _∙_}
-use Prim.Native.Nat.{ℕ, _*_, _-_, _≤_, _<_}
+use Prim.Native.Nat.{_*_, _-_, _≤_}
 use native.Mathlib.Omega.{arith}
 use lib.Arith.{digits-lt}
 use lib.ListN.{length}

@@ -1,6 +1,6 @@
 -- `row_sum` meets its contract. The loop's invariant: s is b(i) less the products of the columns passed.
 use mathlib.Core.Path.{_≡_, sym}
-use Prim.Native.Nat.{ℕ, _-_, _≤_, _<_}
+use Prim.Native.Nat.{_-_, _≤_}
 use native.Mathlib.Omega.{arith}
 use lib.Arith.{digits-lt}
 use Rattle.steps.specs.Num.{times, at, cell}

@@ -1,16 +1,14 @@
 -- `find_pivot` meets its contract. The loop's invariant: row is the pivot's row among those passed, size its magnitude.
-use mathlib.Core.Path.{_≡_, refl, sym, _∙_}
+use mathlib.Core.Path.{_≡_, sym, _∙_}
 use mathlib.Core.Logic.{⊎-elim}
-use mathlib.Core.Bool.{cond}
-use Prim.Native.Nat.{ℕ, _+_, _*_, _-_, _≤_, _<_}
+use Prim.Native.Nat.{_+_, _-_, _≤_, _<_}
 use native.Mathlib.Omega.{arith}
 use lib.Arith.{digits-lt}
-use lib.Ieee.{lt}
 use borrow.Author.Needs.{needs}
 use Rattle.steps.specs.Num.{cell}
 use Rattle.steps.specs.Loops.{loop-none, loop-more, loop-end}
 use Rattle.float64.specs.Root.{absOf}
-use Rattle.solve.specs.Lu.{pivot-row, Pivots}
+use Rattle.solve.specs.Lu.{pivot-row}
 use Rattle.solve.proofs.inner.lu.find_pivot.Statement.{statement}
 use Rattle.solve.proofs.inner.lu.find_pivot.Tie as tie
 

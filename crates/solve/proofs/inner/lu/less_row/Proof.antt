@@ -1,9 +1,9 @@
 -- `less_row` meets its contract. The loop's invariant: the columns passed are those of the rule's loop so far.
-use mathlib.Core.Path.{_≡_, sym, ap, _∙_}
-use Prim.Native.Nat.{ℕ, _+_, _*_, _-_, _≤_, _<_}
+use mathlib.Core.Path.{_≡_, sym, _∙_}
+use Prim.Native.Nat.{_+_, _*_, _-_, _≤_}
 use native.Mathlib.Omega.{arith}
 use lib.Arith.{digits-lt}
-use lib.ListN.{length, set, length-set}
+use lib.ListN.{length, set}
 use Rattle.steps.specs.Num.{less, times, cell}
 use Rattle.steps.specs.Loops.{loop, loop-none, loop-more, loop-end}
 use Rattle.solve.specs.Lu.{less-row}

@@ -1,5 +1,5 @@
 -- `lu` meets its contract: the factors, then both substitutions; a refusal leaves the matrix and b as the steps so far made them.
-use mathlib.Core.Path.{_≡_, _∙_}
+use mathlib.Core.Path.{_∙_}
 use borrow.Author.Needs.{needs}
 use Rattle.solve.proofs.Ends.{lu-stops, lu-goes}
 use Rattle.solve.proofs.inner.lu.lu.Statement.{statement}

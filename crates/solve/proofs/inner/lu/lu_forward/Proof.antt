@@ -1,6 +1,6 @@
 -- `lu_forward` meets its contract. The loop's invariant: the numbers passed are those of the rule's loop so far.
 use mathlib.Core.Path.{_≡_, sym, _∙_}
-use Prim.Native.Nat.{ℕ, _-_, _≤_, _<_}
+use Prim.Native.Nat.{_-_, _≤_}
 use native.Mathlib.Omega.{arith}
 use lib.ListN.{length, set, length-set}
 use Rattle.steps.specs.Num.{times, at, cell}

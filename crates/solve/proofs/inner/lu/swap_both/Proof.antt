@@ -1,5 +1,4 @@
 -- `swap_both` meets its contract: a row that stands at its place already is left there.
-use mathlib.Core.Path.{_≡_}
 use borrow.Author.Needs.{needs}
 use borrow.Author.Tests.{eq-eqb, ne-eqb}
 use Rattle.solve.specs.Lu.{lu-swap}

@@ -1,5 +1,4 @@
 -- `normal_equations` meets its contract: both solves see a copy of the matrix.
-use mathlib.Core.Path.{_≡_}
 use borrow.Author.Needs.{needs}
 use Rattle.solve.proofs.Ends.{normal-goes, normal-by-lu}
 use Rattle.solve.proofs.inner.normal.normal_equations.Statement.{statement}

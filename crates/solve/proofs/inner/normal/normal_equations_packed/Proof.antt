@@ -1,10 +1,10 @@
 -- `normal_equations_packed` meets its contract: both solves see a copy of the matrix that stands before it.
-use mathlib.Core.Path.{_≡_, sym, ap, _∙_}
+use mathlib.Core.Path.{_≡_, _∙_}
 use mathlib.Core.List.{List}
 use Prim.Native.Nat.{ℕ, _+_, _*_, _-_, _≤_}
 use native.Mathlib.Omega.{arith}
 use borrow.Author.Needs.{needs}
-use lib.ListN.{length, take, drop, length-take, length-drop}
+use lib.ListN.{length, take, length-take, length-drop}
 use lib.Ieee.{Float}
 use denote.Ref.{now}
 use Rattle.steps.specs.Space.{part, withPart, part-with, front-with, length-with}
