@@ -7,3 +7,4 @@ pub mod Unique
 pub mod Stable
 pub mod Endings
 pub mod Promises
+pub mod Values

@@ -1,0 +1,104 @@
+-- Theta's supported columns with the rows below them, and the target with zeros. Assumes nothing.
+use mathlib.Core.Path.{_≡_, refl, sym, ap, _∙_, subst}
+use mathlib.Core.Logic.{_⊎_, inl, inr, ⊎-elim}
+use mathlib.Core.Bool.{cond}
+use mathlib.Core.List.{List}
+use Prim.Native.Nat.{ℕ, _+_, _-_, _*_, _^_, _≤_, _<_}
+use native.Mathlib.Nat.{eq-or-lt-of-le, mul-le-mul, sub-zero, zero-add}
+use native.Mathlib.Omega.{arith}
+use lib.Count.{ones, ones-le}
+use lib.Dec.{eqb}
+use lib.ListN.{length, getD, set, replicate, length-replicate, getD-replicate}
+use lib.Seq.{getD-set-same, getD-set-other}
+use lib.Ieee.{Float, nan}
+use borrow.Author.Tests.{lt-ltb, le-ltb}
+use Rattle.steps.specs.Num.{+zero, at, cell}
+use Rattle.steps.specs.Cond.{lt-or-ge}
+use Rattle.steps.specs.Table.{tab, is-tab, table, is-table}
+use Rattle.steps.specs.Space.{cleared, cleared-all, withPart, length-with, get-with, get-after}
+use Rattle.steps.specs.Wrote.{Wrote}
+use Rattle.steps.specs.Rows.{Rows, rows-apart}
+use Rattle.support.specs.Word.{term}
+use Rattle.support.specs.CountLaws.{ones-is}
+use Rattle.support.specs.TermLaws.{term-is}
+use Rattle.builders.specs.Products.{columns}
+use Rattle.rule.specs.Fits.{augmented, padded}
+use Rattle.refit.specs.Parts.{Sized, Lists, Ridged}
+
+-- one more term number stands in the list
+pub lists-more : (n w c x : ℕ) (l : List ℕ) → ((k : ℕ) → k < c → getD l k 0 ≡ term n w k) → c < length l → x ≡ term n w c → (k : ℕ) → k < c + 1 → getD (set l c x) k 0 ≡ term n w k
+lists-more n w c x l all h e k b =
+    ⊎-elim
+    (λ q. subst (λ (j : ℕ). getD (set l c x) j 0 ≡ term n w j) (sym q) (getD-set-same l c x 0 h ∙ e))
+    (λ z. getD-set-other l c k x 0 (λ q. omega arith) ∙ all k z)
+    (eq-or-lt-of-le (let z : k ≤ c = omega arith in z))
+
+-- a listed term number is a column
+pub listed-lt : (n w : ℕ) (l : List ℕ) → w < 2 ^ n → Lists n w l → (c : ℕ) → c < ones w → getD l c 0 < n
+listed-lt n w l h ls c b = omega (arith, ls .each c b, term-is n w c (omega (arith, ones-is w n h)) .below)
+
+-- the sizes of a refit: at most 64 supported columns, and the area of the augmented matrix
+module _ (rows n w k : ℕ) {theta target : List Float} (few : k ≡ ones w) (within : w < 2 ^ n) (sizes : Sized theta target rows n) where
+  pub narrow : k ≤ 64
+  narrow = omega (arith, ones-le n w within, sizes .cols)
+
+  pub area : (rows + k) * k ≤ 266240
+  area = let tall : rows + k ≤ 4160 = omega (arith, narrow, sizes .few) in omega (arith, mul-le-mul tall narrow)
+
+pub ridge-none : (rows k : ℕ) (root : Float) (s : List Float) → Ridged rows k root 0 s s
+ridge-none rows k root s = record { long = refl; new = λ r c h g. absurd (omega arith); old = λ r c h g. refl }
+
+-- one more of the rows below
+pub ridge-more : (rows k : ℕ) (root : Float) (i : ℕ) (s s' s'' : List Float) → Ridged rows k root i s s' → Wrote (λ c. (rows + i) * k + c) 0 k (λ c. cond (eqb i c) root +zero) s' s'' → Ridged rows k root (i + 1) s s''
+ridge-more rows k root i s s' s'' d u =
+    record {
+      long = u .long ∙ d .long;
+      new = λ r c h g. ⊎-elim
+          (λ q. subst (λ (j : ℕ). cell k s'' (rows + j) c ≡ cond (eqb j c) root +zero) (sym q) (u .done c (omega arith) g))
+          (λ z. same (rows + r) c (omega arith) g ∙ d .new r c z g)
+          (eq-or-lt-of-le (let z : r ≤ i = omega arith in z));
+      old = λ r c h g. same r c (omega arith) g ∙ d .old r c h g;
+    }
+  where
+    same : (r c : ℕ) → r < rows + i → c < k → cell k s'' r c ≡ cell k s' r c
+    same r c h g = u .rest (r * k + c) (λ c' a b q. rows-apart k r (rows + i) c c' (inl h) g b q)
+
+-- the gathered rows and the rows below are the augmented matrix
+module _ (rows n w k : ℕ) (root : Float) (theta : List Float) (l : List ℕ) (s s₁ s₂ : List Float) (few : k ≡ ones w) (len : length s ≡ (rows + k) * k)
+    (ls : Lists n w l) (top : Rows (rows + k) k (λ i c. cell n theta i (getD l c 0)) s rows s₁) (low : Ridged rows k root k s₁ s₂) where
+  entry : (i c : ℕ) → i < rows + k → c < k → (i < rows) ⊎ (rows ≤ i) → cell k s₂ i c ≡ augmented rows root (columns n w (cell n theta)) i c
+  unfolding augmented columns
+  entry i c h g (inl b) =
+      low .old i c b g ∙ top .new i c b g ∙ ap (λ (t : ℕ). cell n theta i t) (ls .each c (omega arith)) ∙ sym (rw (lt-ltb i rows b))
+  entry i c h g (inr b) =
+      let e : rows + (i - rows) ≡ i = omega arith in
+      subst (λ (x : ℕ). cell k s₂ x c ≡ cond (eqb (i - rows) c) root +zero) e (low .new (i - rows) c (omega arith) g) ∙ sym (rw (le-ltb i rows b))
+
+  pub augmented-is : s₂ ≡ table (rows + k) k (augmented rows root (columns n w (cell n theta)))
+  augmented-is = is-table (rows + k) k _ s₂ nan (low .long ∙ top .long ∙ len) (λ i c h g. entry i c h g (lt-or-ge i rows))
+
+-- the target copied over zeros, as a part from 0 comes back
+pub padded-is : (k : ℕ) (t u b b' : List Float) → length b ≡ length t + k → u ≡ t → b' ≡ cleared (length t + k) b → withPart 0 (length t) u b' ≡ tab (length t + k) (padded (length t) (at t))
+unfolding padded
+padded-is k t u b b' len is-u is-b =
+    rw (is-u, is-b, cleared-all (length t + k) b len)
+    (is-tab (length t + k) _ (withPart 0 (length t) t zs) nan (length-with 0 (length t) t zs (omega arith) fits whole ∙ long) (λ i h. by i h (lt-or-ge i (length t))))
+  where
+    zs : List Float
+    zs = replicate (length t + k) +zero
+
+    long : length zs ≡ length t + k
+    long = length-replicate (length t + k) +zero
+
+    fits : length t ≤ length zs
+    fits = omega (arith, long)
+
+    whole : length t ≡ length t - 0
+    whole = sym (sub-zero (length t))
+
+    by : (i : ℕ) → i < length t + k → (i < length t) ⊎ (length t ≤ i) → at (withPart 0 (length t) t zs) i ≡ padded (length t) (at t) i
+    by i h (inl b) =
+        subst (λ (x : ℕ). at (withPart 0 (length t) t zs) x ≡ at t i) (zero-add i) (get-with 0 (length t) t zs i nan (omega arith) b)
+        ∙ sym (rw (lt-ltb i (length t) b))
+    by i h (inr b) =
+        get-after 0 (length t) t zs i (omega arith) fits whole b ∙ getD-replicate (length t + k) i +zero nan h ∙ sym (rw (le-ltb i (length t) b))

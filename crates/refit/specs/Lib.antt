@@ -1,0 +1,2 @@
+-- What a solve over a support promises. Assumes nothing.
+pub mod Parts

@@ -1,0 +1,47 @@
+-- What a solve over a support promises, in the words of the rule. Assumes nothing.
+use mathlib.Core.Path.{_≡_}
+use mathlib.Core.List.{List}
+use mathlib.Core.Bool.{cond}
+use Prim.Native.Nat.{ℕ, _+_, _*_, _≤_, _<_}
+use lib.Count.{ones}
+use lib.Dec.{eqb}
+use lib.ListN.{length, getD}
+use lib.Ieee.{Float}
+use Rattle.steps.specs.Num.{+zero, at, cell}
+use Rattle.refusal.specs.Answers.{Solution, solved, refused, solution, told}
+use Rattle.refusal.specs.declared.Solved.{Solved}
+use Rattle.support.specs.Word.{term}
+use Rattle.builders.specs.Products.{columns}
+use Rattle.rule.specs.Rule.{scatter}
+use Rattle.rule.specs.Fits.{solves}
+use Rattle.rule.specs.declared.Solver.{Solver}
+
+-- the sizes that the public call has tested: theta and target of rows by n, within the limits
+pub record Sized (theta target : List Float) (rows n : ℕ) : Type 0 where
+  pub cols : n ≤ 64
+  pub few : rows ≤ 4096
+  pub matrix : length theta ≡ rows * n
+  pub right : length target ≡ rows
+
+-- the list holds the term number of each reduced place of w
+pub record Lists (n w : ℕ) (l : List ℕ) : Type 0 where
+  pub each : (c : ℕ) → c < ones w → getD l c 0 ≡ term n w c
+
+-- the first i of the rows after `rows` have the root on their diagonal; the rows of the matrix before them are as they were
+pub record Ridged (rows k : ℕ) (root : Float) (i : ℕ) (s s' : List Float) : Type 0 where
+  pub long : length s' ≡ length s
+  pub new : (r c : ℕ) → r < i → c < k → cell k s' (rows + r) c ≡ cond (eqb r c) root +zero
+  pub old : (r c : ℕ) → r < rows → c < k → cell k s' r c ≡ cell k s r c
+
+-- the coefficients after a solve over w: each value at its term
+abbrev pub placed : ℕ → ℕ → Solution → Solution
+placed n w (solved vs) = solved (scatter n w vs)
+placed n w (refused c) = refused c
+
+-- what a solve answered, with the coefficients that it left
+abbrev pub gave : Solved → List Float → Solution
+gave r cs = solution (told r cs)
+
+-- the solve of a support's columns
+unfoldable pub over-support : Solver → Float → List Float → List Float → ℕ → ℕ → ℕ → Solution
+over-support solver lambda theta target rows n w = solves solver lambda (at target) rows (ones w) (columns n w (cell n theta))

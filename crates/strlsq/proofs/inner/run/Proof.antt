@@ -1,0 +1,104 @@
+-- `run` meets its contract: no data, a first solve that is refused, or the rounds after it.
+use mathlib.Core.Path.{_≡_, refl, sym, ap, _∙_}
+use native.Mathlib.Omega.{arith}
+use borrow.Author.Needs.{needs}
+use lib.ListN.{length}
+use denote.Ref.{now}
+use Rattle.support.specs.SupportLaws.{full-lt}
+use Rattle.strlsq.proofs.Rounds.{zeroed}
+use Rattle.strlsq.proofs.First.{none-left, no-rows, no-cols, first-refused, first-goes}
+use Rattle.strlsq.proofs.inner.run.Statement.{statement}
+use Rattle.strlsq.proofs.inner.run.Tie as tie
+
+clear-requires : tie.Need-clear-requires
+clear-requires c κs = omega (arith, c .before .before .before .before .before .before .pre .1)
+
+same-length : tie.Need-same-length
+same-length c = c .before .before .clear .kept .0
+
+returns : tie.Need-returns
+returns c =
+    let start = c .before .before .before .before .before .before .before .before .before in
+    let a = start .args in
+    no-rows (a .solver) (a .setup) (now (a .theta)) (now (a .target)) (a .n-rows) (a .n-cols) (a .setup .«max_iter») (c .before .before .before .before .if1 .taken)
+    (zeroed (a .n-cols) (now (a .coeffs)) (start .pre .1) (c .before .before .clear .ensures))
+
+returns-2 : tie.Need-returns-2
+returns-2 c =
+    let start = c .before .before .before .before .before .before in
+    let a = start .args in
+    no-cols (a .solver) (a .setup) (now (a .theta)) (now (a .target)) (a .n-rows) (a .n-cols) (a .setup .«max_iter») (c .before .if1 .left) (c .if2 .taken)
+    (none-left (a .n-cols) (now (a .coeffs)) (c .if2 .taken) (start .pre .1))
+
+full-requires : tie.Need-full-requires
+full-requires c κs = search needs
+
+solve-terms-requires : tie.Need-solve-terms-requires
+solve-terms-requires c κs =
+    let start = c .before .before .before .before .before .before .before .before .before in
+    (start .pre .0, start .pre .1, rw (c .before .before .full .ensures) (full-lt (start .args .n-cols) (start .pre .0 .cols)), start .pre .2)
+
+enum-told : tie.Need-enum-told
+enum-told c = search needs
+
+enum-told-2 : tie.Need-enum-told-2
+enum-told-2 c = search needs
+
+clear-requires-2 : tie.Need-clear-requires-2
+clear-requires-2 c κs = omega (arith, c .before .before .before .before .before .before .before .solve-terms .kept .1 .1 .1 .1 .1 .1 .1 .0, c .before .before .before .before .before .before .before .before .before .before .before .before .before .before .before .before .before .pre .1)
+
+same-length-2 : tie.Need-same-length-2
+same-length-2 c = c .before .before .clear2 .kept .0 ∙ c .before .before .before .before .before .before .before .before .before .before .solve-terms .kept .1 .1 .1 .1 .1 .1 .1 .0
+
+same-length-3 : tie.Need-same-length-3
+same-length-3 c = c .before .before .before .before .before .before .before .before .before .before .solve-terms .kept .1 .1 .1 .1 .1 .1 .1 .1 .0
+
+returns-3 : tie.Need-returns-3
+returns-3 c =
+    let start = c .before .before .before .before .before .before .before .before .before .before .before .before .before .before .before .before .before .before .before .before in
+    let a = start .args in
+    let told = c .before .before .before .before .enum-told2 .given in
+    let solve = c .before .before .before .before .before .before .before .before .before .before .solve-terms in
+    first-refused (a .solver) (a .setup) (now (a .theta)) (now (a .target)) (a .n-rows) (a .n-cols) (c .before .before .before .before .before .before .before .before .before .before .before .before .before .before .before .if1 .left) (c .before .before .before .before .before .before .before .before .before .before .before .before .before .before .if2 .left) (start .pre .0 .cols)
+    (c .before .before .before .before .before .before .before .before .before .before .before .before .before .full .result .0) (c .before .before .before .before .before .before .before .before .before .before .before .before .before .full .ensures) (solve .result) (told .0 .0) (a .setup .«max_iter») _ (solve .last .1 .1 .1 .1 .1 .1 .1 .0) (told .1) (solve .ensures)
+    (solve .kept .1 .1 .1 .1 .1 .1 .1 .0 ∙ start .pre .1) (c .before .before .clear2 .ensures)
+
+rounds-requires : tie.Need-rounds-requires
+rounds-requires c κs =
+    let start = c .before .before .before .before .before .before .before .before .before .before .before .before .before .before .before .before .before .before in
+    let a = start .args in
+    let told = c .before .before .enum-told .given in
+    let solve = c .before .before .before .before .before .before .before .before .solve-terms in
+    (start .pre .0, solve .kept .1 .1 .1 .1 .1 .1 .1 .0 ∙ start .pre .1, solve .kept .1 .1 .1 .1 .1 .1 .1 .1 .0 ∙ start .pre .2, start .pre .3,
+    first-goes (a .solver) (a .setup) (now (a .theta)) (now (a .target)) (a .n-rows) (a .n-cols) (c .before .before .before .before .before .before .before .before .before .before .before .before .before .if1 .left) (c .before .before .before .before .before .before .before .before .before .before .before .before .if2 .left) (start .pre .0 .cols)
+    (c .before .before .before .before .before .before .before .before .before .before .before .full .result .0) (c .before .before .before .before .before .before .before .before .before .before .before .full .ensures) (solve .result) (solve .last .1 .1 .1 .1 .1 .1 .1 .0) (told .1) (solve .ensures))
+
+same-length-4 : tie.Need-same-length-4
+same-length-4 c = c .before .before .before .before .rounds .kept .1 .1 .1 .1 .1 .1 .0 ∙ c .before .before .before .before .before .before .before .before .before .before .before .before .before .solve-terms .kept .1 .1 .1 .1 .1 .1 .1 .0
+
+same-length-5 : tie.Need-same-length-5
+same-length-5 c = c .before .before .before .before .rounds .kept .1 .1 .1 .1 .1 .1 .1 .0 ∙ c .before .before .before .before .before .before .before .before .before .before .before .before .before .solve-terms .kept .1 .1 .1 .1 .1 .1 .1 .1 .0
+
+returns-4 : tie.Need-returns-4
+returns-4 c = c .before .before .before .before .rounds .ensures
+
+pub run-spec : {M : Type 1} → statement M
+run-spec =
+    tie.close
+    (tie.spec
+    clear-requires
+    same-length
+    returns
+    returns-2
+    full-requires
+    solve-terms-requires
+    enum-told
+    enum-told-2
+    clear-requires-2
+    same-length-2
+    same-length-3
+    returns-3
+    rounds-requires
+    same-length-4
+    same-length-5
+    returns-4)
