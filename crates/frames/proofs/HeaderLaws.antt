@@ -1,0 +1,21 @@
+-- What a formed header has. Assumes nothing.
+use mathlib.Core.Path.{_≡_, refl, sym, subst}
+use mathlib.Core.Bool.{Bool, true, false, _&&_}
+use mathlib.Core.List.{List}
+use Prim.Native.Nat.{ℕ}
+use native.Mathlib.Omega.{arith}
+use borrow.Author.Tests.{leb-true}
+use lib.Dec.{T, leb, eqb}
+use lib.ListN.{length, getD}
+use Rattle.hex.specs.Hex.{all-hex, Digits, newline}
+use Rattle.frames.specs.Header.{header-formed}
+
+pub and-both : (a b : Bool) → a && b ≡ true → (a ≡ true) × (b ≡ true)
+and-both true b h = (refl, h)
+and-both false b h = absurd (subst T (sym h) tt)
+
+pub header-digits : (s : List ℕ) → header-formed s ≡ true → Digits s 0 44
+unfolding header-formed
+header-digits s h =
+    let long = and-both (leb 45 (length s)) _ h in
+    record { within = omega (arith, leb-true 45 (length s) (long .0)); good = and-both (all-hex s 0 44) _ (long .1) .0 }

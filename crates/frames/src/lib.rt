@@ -1,0 +1,2 @@
+// The bench program's exchange: the bytes of an input in, those of its answer out.
+mod header;
