@@ -7,12 +7,9 @@ use native.Mathlib.Omega.{arith}
 use borrow.Author.Tests.{leb-true}
 use lib.Dec.{T, leb, eqb}
 use lib.ListN.{length, getD}
+use Rattle.hex.specs.All.{and-both}
 use Rattle.hex.specs.Hex.{all-hex, Digits, newline}
 use Rattle.frames.specs.Header.{header-formed}
-
-pub and-both : (a b : Bool) → a && b ≡ true → (a ≡ true) × (b ≡ true)
-and-both true b h = (refl, h)
-and-both false b h = absurd (subst T (sym h) tt)
 
 pub header-digits : (s : List ℕ) → header-formed s ≡ true → Digits s 0 44
 unfolding header-formed

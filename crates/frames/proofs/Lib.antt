@@ -1,1 +1,2 @@
 pub mod HeaderLaws
+pub mod RowLaws

@@ -6,6 +6,7 @@ use Prim.Native.Char.{Char, code}
 use Prim.Native.String as S
 use Prim.Native.String.{String}
 use lib.Ieee.{toBits, isNan}
+use Rattle.hex.specs.All.{all}
 use Rattle.hex.specs.Hex as H
 use Rattle.frames.specs.Header as D
 use Rattle.frames.specs.Rows as R
@@ -20,8 +21,8 @@ text (S._∷_ c s) = code c ∷ text s
 
 -- all that the frames compute with
 unfoldable pub framed : Unit {0}
-unfolding text toBits isNan H.value H.glyph H.all-hex H.number H.digits H.bits D.header-formed D.header D.head-of
-    R.row-at R.row-formed R.each-formed R.rows-formed A.refusal-line A.report-line A.coefficient-lines
+unfolding text toBits isNan all H.value H.glyph H.all-hex H.number H.digits H.bits D.header-formed D.header D.head-of
+    R.row-at R.row-formed R.rows-formed A.refusal-line A.report-line A.coefficient-lines
     X.checked X.fit-of X.fit-lines X.answer-lines X.answer-to X.answer-of
 framed = tt
 

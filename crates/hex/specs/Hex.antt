@@ -1,12 +1,13 @@
 -- Numbers and f64 bits as lowercase hex digits, the high digit first. Assumes nothing.
 use Prim.Native.Nat.{ℕ, zero, suc, _+_, _-_, _*_, _/_, _%_, _≤_}
 use mathlib.Core.Path.{_≡_}
-use mathlib.Core.Bool.{Bool, true, cond, _&&_}
+use mathlib.Core.Bool.{Bool, true, cond}
 use mathlib.Core.List.{List, [], _∷_, _++_}
 use lib.Dec.{ltb, leb}
 use lib.ListN.{length, getD}
 use lib.Ieee.{Float, binary64, toBits, isNan}
 use Rattle.steps.specs.Num.{lit}
+use Rattle.hex.specs.All.{all}
 
 -- the value of a digit, 0 to 9 and a to f; 16 for a byte that is no digit
 unfoldable pub value : ℕ → ℕ
@@ -18,8 +19,7 @@ glyph d = cond (ltb d 10) (48 + d) (87 + d)
 
 -- whether the n bytes of s from a on are all digits
 unfoldable pub all-hex : List ℕ → ℕ → ℕ → Bool
-all-hex s a zero = true
-all-hex s a (suc n) = all-hex s a n && ltb (value (getD s (a + n) 0)) 16
+all-hex s a n = all (λ i. ltb (value (getD s (a + i) 0)) 16) n
 
 -- the number that the n digits of s from a on write
 unfoldable pub number : List ℕ → ℕ → ℕ → ℕ
@@ -46,3 +46,7 @@ bits x = cond (isNan x) 0x7ff8000000000000 (toBits binary64 x)
 
 abbrev pub newline : ℕ
 newline = 10
+
+-- the n digits of w and a newline
+abbrev pub line : ℕ → ℕ → List ℕ
+line n w = digits n w ++ (newline ∷ [])

@@ -1,5 +1,5 @@
 -- Text written into a slice of bytes, piece after piece. Assumes nothing.
-use mathlib.Core.Path.{_≡_, sym, ap, _∙_}
+use mathlib.Core.Path.{_≡_, refl, sym, ap, _∙_}
 use mathlib.Core.List.{List, [], _∷_, _++_, append-assoc}
 use Prim.Native.Nat.{ℕ, suc, _+_, _≤_, _<_}
 use native.Mathlib.Nat.{add-zero, zero-add, add-assoc}
@@ -38,8 +38,12 @@ put-before a g t s h =
     let len : length (take a s) ≡ a = length-take-le a s (omega arith) in
     rw (e, add-one, take-suc s a 0, append-snoc) (set-at (take a s) _ _ g a len)
 
-pub put-one : (a g : ℕ) (s : List ℕ) → a < length s → set s a g ≡ put a (g ∷ []) s
+put-one : (a g : ℕ) (s : List ℕ) → a < length s → set s a g ≡ put a (g ∷ []) s
 put-one a g s h = ap (λ (l : List ℕ). set l a g) (put-none (a + 1) s) ∙ put-before a g [] s h
+
+-- a writer of one byte
+pub written-one : (a g : ℕ) (s : List ℕ) → a < length s → Written a (g ∷ []) s (set s a g) (a + 1)
+written-one a g s h = record { place = refl; bytes = put-one a g s h }
 
 -- a piece, and the next
 pub put-put : (a : ℕ) (t u s : List ℕ) → a ≤ length s → put (a + length t) u (put a t s) ≡ put a (t ++ u) s

@@ -11,12 +11,17 @@ use lib.ListN.{length, getD, length-append, List·getD-append}
 use lib.Seq.{getD-append-add, getD-at}
 use lib.Ieee.{Float, nan, inf, fin, binary64, fits, isNan, ofBits}
 use lib.Ieee.Bits.{ofBits-toBits, toBits-lt}
+use Rattle.hex.specs.Put.{Written}
 use Rattle.hex.specs.Hex.{value, glyph, number, digits, bits, float}
 
 pub length-digits : (n w : ℕ) → length (digits n w) ≡ n
 unfolding digits
 length-digits zero w = refl
 length-digits (suc n) w = let h = length-digits n (w / 16) in length-append (digits n (w / 16)) (glyph (w % 16) ∷ []) ∙ omega arith
+
+-- the place after n digits
+pub after-digits : {a next : ℕ} {was out : List ℕ} (n w : ℕ) → Written a (digits n w) was out next → next ≡ a + n
+after-digits {a} n w f = omega (arith, f .place, length-digits n w)
 
 value-glyph : (d : ℕ) → d < 16 → value (glyph d) ≡ d
 unfolding value glyph

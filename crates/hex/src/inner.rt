@@ -1,9 +1,8 @@
 // Digits read and written; each function may require what its caller tested.
 ghost use mathlib.Core.Path.{_≡_};
-ghost use mathlib.Core.List.{_∷_, []};
 ghost use Prim.Native.Nat.{_+_, _≤_, _<_};
 ghost use lib.ListN.{length};
-ghost use Rattle.hex.specs.Hex.{value as value-of, glyph as glyph-of, all-hex, number as number-of, Digits, float as float-at, digits, bits as bits-of, newline};
+ghost use Rattle.hex.specs.Hex.{value as value-of, glyph as glyph-of, all-hex, number as number-of, Digits, float as float-at, digits, bits as bits-of, line};
 ghost use Rattle.hex.specs.Put.{Written};
 
 // A digit's value, and 16 for any other byte.
@@ -98,11 +97,12 @@ pub fn write_hex(w: u64, n: usize, out: &mut [u8], at: usize) -> usize
     at + n
 }
 
-// Ends a line.
-pub fn end_line(out: &mut [u8], at: usize) -> usize
-    requires { ⌜ at < length (now out) ⌝ }
-    ensures { λ r. ⌜ Written at (newline ∷ []) (now (out .entry)) (now (out .exit)) r ⌝ }
+// Writes them and a newline.
+pub fn write_line(w: u64, n: usize, out: &mut [u8], at: usize) -> usize
+    requires { ⌜ at + n < length (now out) ⌝ }
+    ensures { λ r. ⌜ Written at (line n w) (now (out .entry)) (now (out .exit)) r ⌝ }
 {
-    out[at] = 10;
-    at + 1
+    let end = write_hex(w, n, out, at);
+    out[end] = 10;
+    end + 1
 }

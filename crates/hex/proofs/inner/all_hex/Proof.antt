@@ -5,7 +5,7 @@ use Prim.Native.Nat.{_-_, _≤_}
 use native.Mathlib.Omega.{arith}
 use borrow.Author.Needs.{needs}
 use Rattle.hex.specs.Hex.{all-hex}
-use Rattle.hex.specs.Parts.{hex-none, hex-more, hex-not}
+use Rattle.hex.specs.Parts.{hex-none, hex-more, hex-end, hex-not}
 use Rattle.hex.proofs.inner.all_hex.Statement.{statement}
 use Rattle.hex.proofs.inner.all_hex.Tie as tie
 
@@ -45,8 +45,7 @@ loop-again c =
 
 returns-2 : tie.Need-returns-2 Inv-loop μ-loop
 returns-2 c =
-    let e : c .before .loop .i ≡ c .before .before .before .args .n = omega arith in
-    sym (rw e at (c .before .loop .inv .1))
+    sym (hex-end _ _ (c .before .loop .inv .1) (omega arith) (omega arith))
 
 pub all-hex-spec : {M : Type 1} → statement M
 all-hex-spec = tie.close (tie.spec Inv-loop μ-loop loop-holds add-value shared-slice-read-value value-requires returns add-i loop-less loop-again returns-2)
