@@ -1,14 +1,14 @@
 -- What a formed header has. Assumes nothing.
-use mathlib.Core.Path.{_≡_, refl, sym, subst}
-use mathlib.Core.Bool.{Bool, true, false, _&&_}
+use mathlib.Core.Path.{_≡_}
+use mathlib.Core.Bool.{true}
 use mathlib.Core.List.{List}
 use Prim.Native.Nat.{ℕ}
 use native.Mathlib.Omega.{arith}
 use borrow.Author.Tests.{leb-true}
-use lib.Dec.{T, leb, eqb}
-use lib.ListN.{length, getD}
+use lib.Dec.{leb}
+use lib.ListN.{length}
 use Rattle.hex.specs.All.{and-both}
-use Rattle.hex.specs.Hex.{all-hex, Digits, newline}
+use Rattle.hex.specs.Hex.{all-hex, Digits}
 use Rattle.frames.specs.Header.{header-formed}
 
 pub header-digits : (s : List ℕ) → header-formed s ≡ true → Digits s 0 44

@@ -1,7 +1,6 @@
 -- `fields` reads each number where its definition has it: all within the 44 digits.
 use native.Mathlib.Omega.{arith}
 use borrow.Author.Needs.{needs}
-use mathlib.Core.Path.{sym, _∙_}
 use Rattle.hex.specs.Parts.{part-digits}
 use Rattle.frames.specs.Header.{header}
 use Rattle.frames.proofs.header.fields.Statement.{statement}

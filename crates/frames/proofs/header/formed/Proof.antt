@@ -1,6 +1,5 @@
 -- `formed` makes its definition's tests one by one.
 use native.Mathlib.Omega.{arith}
-use borrow.Author.Needs.{needs}
 use borrow.Author.Tests.{le-leb, lt-leb, not-true, not-false}
 use mathlib.Core.Path.{sym, _∙_}
 use Rattle.frames.specs.Header.{header-formed}

@@ -1,5 +1,5 @@
 -- `feature_of` reads 16 of the digits of its row.
-use mathlib.Core.Path.{_≡_, _∙_}
+use mathlib.Core.Path.{_∙_}
 use Prim.Native.Nat.{_+_, _*_}
 use native.Mathlib.Omega.{arith}
 use Rattle.hex.specs.Hex.{Digits}

@@ -1,9 +1,9 @@
 -- `formed` tests the length, then each row. The loop's invariant: the rows before r are formed.
-use mathlib.Core.Path.{_≡_, sym, ap, _∙_}
+use mathlib.Core.Path.{_≡_, sym, _∙_}
 use mathlib.Core.Bool.{true}
 use Prim.Native.Nat.{_-_, _≤_}
 use native.Mathlib.Omega.{arith}
-use borrow.Author.Tests.{eq-eqb, ne-eqb, not-true, not-false}
+use borrow.Author.Tests.{ne-eqb, not-true, not-false}
 use lib.ListN.{length}
 use Rattle.hex.specs.All.{all, all-none, all-more}
 use Rattle.frames.specs.Rows.{row-at, row-formed, rows-formed}

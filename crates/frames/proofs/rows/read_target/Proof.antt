@@ -1,6 +1,6 @@
 -- `read_target` reads the first number of each row. The loop's invariant: the first r numbers are the targets of those rows.
 use mathlib.Core.Path.{_≡_, refl, _∙_}
-use Prim.Native.Nat.{ℕ, _+_, _-_, _≤_}
+use Prim.Native.Nat.{_-_, _≤_}
 use native.Mathlib.Omega.{arith}
 use lib.ListN.{length, length-set}
 use Rattle.steps.specs.Table.{filled, filled-none}

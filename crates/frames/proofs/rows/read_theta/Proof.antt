@@ -1,6 +1,6 @@
 -- `read_theta` reads the features, row by row. The loop's invariant: the first k numbers are the first k features.
 use mathlib.Core.Path.{_≡_, refl}
-use Prim.Native.Nat.{ℕ, _-_, _*_, _/_, _%_, _≤_, _<_}
+use Prim.Native.Nat.{_-_, _*_, _/_, _%_, _≤_, _<_}
 use native.Mathlib.Omega.{arith}
 use lib.ListN.{length, length-set}
 use Rattle.steps.specs.Table.{filled, filled-none, table}

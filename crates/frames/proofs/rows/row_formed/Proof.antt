@@ -1,5 +1,5 @@
 -- `row_formed` makes its definition's two tests.
-use mathlib.Core.Path.{_≡_, sym, _∙_}
+use mathlib.Core.Path.{sym, _∙_}
 use native.Mathlib.Omega.{arith}
 use borrow.Author.Tests.{not-true, not-false}
 use Rattle.frames.specs.Rows.{row-formed}
