@@ -1,10 +1,11 @@
 -- The whole exchange: the bytes of an input in, those of its answer out. Assumes nothing.
 use mathlib.Core.Path.{_≡_}
-use Prim.Native.Nat.{ℕ}
+use Prim.Native.Nat.{ℕ, _*_, _≤_}
 use mathlib.Core.Bool.{not}
 use mathlib.Core.List.{List, _++_}
 use lib.Dec.{ltb}
 use lib.ListN.{length, drop}
+use lib.Ieee.{Float}
 use Rattle.steps.specs.Num.{at, cell}
 use Rattle.steps.specs.Table.{tab, table}
 use Rattle.refusal.specs.Answers.{refuse-if}
@@ -29,11 +30,21 @@ checked s h =
     (refuse-if (not (rows-formed s (h .rows) (h .cols))) Malformed
     Done)))
 
--- the fit of the rows: theta has the features by rows, the target each row's
+-- the sizes that a fit of an accepted input has: within the limits, and those of theta and target
+pub record Fitting (h : Header) (theta target : ℕ) : Type 0 where
+  pub few-cols : h .cols ≤ 16
+  pub few-rows : h .rows ≤ 128
+  pub few-rounds : h .setup .«max_iter» ≤ 1000
+  pub theta-long : theta ≡ h .rows * h .cols
+  pub target-long : target ≡ h .rows
+
+-- the fit of theta and target that a header asks for
+abbrev pub fit-as : Header → List Float → List Float → Fit
+fit-as h theta target = fit-by (h .solver) (cell (h .cols) theta) (at target) (h .rows) (h .cols) (h .setup)
+
+-- the fit of an input: theta has the features by rows, the target each row's
 unfoldable pub fit-of : List ℕ → Header → Fit
-fit-of s h =
-    fit-by (h .solver) (cell (h .cols) (table (h .rows) (h .cols) (feature s (h .cols)))) (at (tab (h .rows) (target s (h .cols))))
-    (h .rows) (h .cols) (h .setup)
+fit-of s h = fit-as h (table (h .rows) (h .cols) (feature s (h .cols))) (tab (h .rows) (target s (h .cols)))
 
 -- the report's line, then a line per coefficient
 unfoldable pub fit-lines : Fit → List ℕ

@@ -3,4 +3,5 @@ pub mod Header
 pub mod Rows
 pub mod Answer
 pub mod Exchange
+pub mod Unique
 pub mod Examples

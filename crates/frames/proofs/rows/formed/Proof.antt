@@ -22,10 +22,12 @@ row-at-requires c κs = omega arith
 
 returns : tie.Need-returns Inv-loop μ-loop
 unfolding rows-formed
-returns c = simp (← c .before .row-at .ensures, ne-eqb _ _ (c .if1 .taken))
+returns c =
+    let a = c .before .before .before .args in
+    simp (ne-eqb (length (a .s .now)) (row-at (a .cols) (a .rows)) (λ e. omega (arith, c .before .row-at .ensures, c .if1 .taken)))
 
 loop-holds : tie.Need-loop-holds Inv-loop μ-loop
-loop-holds c = (omega arith, c .if1 .left ∙ c .before .row-at .ensures, all-none _)
+loop-holds c = (omega arith, omega (arith, c .before .row-at .ensures), all-none _)
 
 row-formed-requires : tie.Need-row-formed-requires Inv-loop μ-loop
 row-formed-requires c κs =
