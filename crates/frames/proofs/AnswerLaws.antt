@@ -1,6 +1,6 @@
 -- The lines of an answer, piece after piece. Assumes nothing.
-use mathlib.Core.Path.{_≡_, refl, sym, ap, _∙_}
-use mathlib.Core.List.{List, [], _∷_, _++_, append-nil, append-assoc}
+use mathlib.Core.Path.{_≡_, refl, _∙_}
+use mathlib.Core.List.{List, [], _∷_, _++_, append-nil}
 use Prim.Native.Nat.{ℕ, _+_, _*_, _≤_, _<_}
 use native.Mathlib.Numerals.{add-one}
 use native.Mathlib.Omega.{arith}
@@ -14,6 +14,7 @@ use Rattle.refusal.specs.Answers.{number}
 use Rattle.refusal.specs.declared.Refusal.{Refusal}
 use Rattle.rule.specs.Codes.{stop-code}
 use Rattle.rule.specs.declared.Stop.{Stop}
+use Rattle.frames.specs.Lines.{lines-append}
 use Rattle.frames.specs.Answer.{refusal-line, report-line, coefficient-lines}
 
 -- the pieces of a refusal's line
@@ -26,15 +27,10 @@ pub report-written : {code count m k r : ℕ} {was mid end out : List ℕ} (stop
 unfolding report-line
 report-written stop refits kept e e' f g h = written-then (omega arith) (written-then (omega arith) (rw e at f) (rw e' at g)) h
 
-pub length-report : (stop : Stop) (refits kept : ℕ) → length (report-line stop refits kept) ≡ 23
-unfolding report-line
-length-report stop refits kept = simp (length-append, length-digits)
-
--- one line more
-lines-more : (xs : List Float) (x : Float) → coefficient-lines (xs ++ (x ∷ [])) ≡ coefficient-lines xs ++ line 16 (bits x)
+-- the lines of one coefficient
+one-line : (x : Float) → coefficient-lines (x ∷ []) ≡ line 16 (bits x)
 unfolding coefficient-lines
-lines-more [] x = append-nil (line 16 (bits x))
-lines-more (y ∷ xs) x = ap (λ (t : List ℕ). line 16 (bits y) ++ t) (lines-more xs x) ∙ sym (append-assoc (line 16 (bits y)) (coefficient-lines xs) (line 16 (bits x)))
+one-line x = append-nil (line 16 (bits x))
 
 -- a line of n digits ends n + 1 places on
 pub after-line : {a next : ℕ} {was out : List ℕ} (n w : ℕ) → Written a (line n w) was out next → next ≡ a + n + 1
@@ -59,8 +55,7 @@ module _ (xs : List Float) (a : ℕ) (was : List ℕ) where
 
   pub lines-next : {j next next' w : ℕ} {out out' : List ℕ} → a ≤ length was → j < length xs → length out' ≡ length out → w ≡ bits (getD xs j nan) → Lines j out next → Written next (line 16 w) out out' next' → Lines (j + 1) out' next'
   lines-next {j} {next} {next'} {w} h l len e f g =
-      let same : coefficient-lines (take (j + 1) xs) ≡ coefficient-lines (take j xs) ++ line 16 w
-      = rw (add-one, take-suc xs j nan l, e) (lines-more (take j xs) (getD xs j nan)) in
+      let same : coefficient-lines (take (j + 1) xs) ≡ coefficient-lines (take j xs) ++ line 16 w = rw (add-one, take-suc xs j nan l, e, lines-append, one-line) in
       record {
         some = omega arith;
         long = len ∙ f .long;

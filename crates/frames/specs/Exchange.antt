@@ -15,7 +15,7 @@ use Rattle.refusal.specs.declared.Refusal.the-variants.{ManyColumns, ManyRows, 
 use Rattle.rule.specs.Rule.{Fit}
 use Rattle.rule.specs.Fits.{fit-by}
 use Rattle.frames.specs.Header.{head-of}
-use Rattle.frames.specs.Rows.{rows-formed, target, feature}
+use Rattle.frames.specs.Rows.{rows-formed, target, feature, Formed}
 use Rattle.frames.specs.Answer.{refusal-line, report-line, coefficient-lines}
 use Rattle.frames.specs.declared.header.Header.{Header}
 use Rattle.frames.specs.declared.header.Head.{Head}
@@ -29,6 +29,11 @@ checked s h =
     (refuse-if (ltb 1000 (h .setup .«max_iter»)) ManyRounds
     (refuse-if (not (rows-formed s (h .rows) (h .cols))) Malformed
     Done)))
+
+-- an accepted input: its rows well formed, its sizes within the limits
+pub record Accepted (s : List ℕ) (h : Header) : Type 0 where
+  pub rows-fine : Formed s (h .rows) (h .cols)
+  pub few-rounds : h .setup .«max_iter» ≤ 1000
 
 -- the sizes that a fit of an accepted input has: within the limits, and those of theta and target
 pub record Fitting (h : Header) (theta target : ℕ) : Type 0 where

@@ -5,7 +5,7 @@ use Prim.Native.Nat.{ℕ, suc, _+_, _≤_, _<_}
 use native.Mathlib.Nat.{add-zero, zero-add, add-assoc}
 use native.Mathlib.Numerals.{add-one}
 use native.Mathlib.Omega.{arith}
-use lib.ListN.{length, take, drop, set, length-append, length-drop, take-append-drop}
+use lib.ListN.{length, take, drop, set, length-append, take-append-drop}
 use lib.Seq.{length-take-le, take-suc, set-at, append-snoc, take-at, drop-append-add, drop-drop}
 
 -- s with the bytes t from a on
@@ -26,10 +26,6 @@ pub put-first : (t s : List ℕ) → put 0 t s ≡ t ++ drop (length t) s
 unfolding put
 put-first t s = rw zero-add
 
-pub length-put : (a : ℕ) (t s : List ℕ) → a + length t ≤ length s → length (put a t s) ≡ length s
-unfolding put
-length-put a t s h = simp (length-append, length-take-le a s (let q : a ≤ length s = omega arith in q), length-drop) (omega arith)
-
 -- one byte more, just before
 pub put-before : (a : ℕ) (g : ℕ) (t s : List ℕ) → a < length s → set (put (a + 1) t s) a g ≡ put a (g ∷ t) s
 unfolding put
@@ -46,7 +42,7 @@ pub written-one : (a g : ℕ) (s : List ℕ) → a < length s → Written a (g �
 written-one a g s h = record { place = refl; bytes = put-one a g s h }
 
 -- a piece, and the next
-pub put-put : (a : ℕ) (t u s : List ℕ) → a ≤ length s → put (a + length t) u (put a t s) ≡ put a (t ++ u) s
+put-put : (a : ℕ) (t u s : List ℕ) → a ≤ length s → put (a + length t) u (put a t s) ≡ put a (t ++ u) s
 unfolding put
 put-put a t u s h =
     let len : length (take a s ++ t) ≡ a + length t = simp (length-append, length-take-le a s h) in

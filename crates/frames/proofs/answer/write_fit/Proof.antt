@@ -2,7 +2,7 @@
 use native.Mathlib.Omega.{arith}
 use borrow.Author.Needs.{needs}
 use Rattle.hex.specs.Put.{written-then}
-use Rattle.frames.proofs.AnswerLaws.{length-report}
+use Rattle.frames.specs.Lines.{length-report}
 use Rattle.frames.proofs.answer.write_fit.Statement.{statement}
 use Rattle.frames.proofs.answer.write_fit.Tie as tie
 
