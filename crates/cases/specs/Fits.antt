@@ -18,7 +18,7 @@ use Rattle.rule.specs.declared.Stop.the-variants.{NoData, FirstRefused, Empty, 
 use Rattle.cases.specs.Solvers.{opened, three, four}
 
 -- all that a fit computes with
-fits : Unit {0}
+unfoldable pub fits : Unit {0}
 unfolding opened ones W.has W.count W.word W.terms W.place W.term
     B.gram B.moment B.ridge B.damped B.jtj-matrix B.jtr-column B.columns
     R.support R.scatter R.refit R.look R.round R.first R.start R.rounds R.pruned R.reported R.finish R.fit

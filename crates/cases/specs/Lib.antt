@@ -1,2 +1,3 @@
 pub mod Solvers
 pub mod Fits
+pub mod Exchanges

@@ -1,0 +1,26 @@
+-- `write_fit` writes the report's line, and behind it the coefficients'.
+use native.Mathlib.Omega.{arith}
+use borrow.Author.Needs.{needs}
+use Rattle.hex.specs.Put.{written-then}
+use Rattle.frames.specs.Lines.{length-report}
+use Rattle.frames.proofs.answer.write_fit.Statement.{statement}
+use Rattle.frames.proofs.answer.write_fit.Tie as tie
+
+write-status-requires : tie.Need-write-status-requires
+write-status-requires c κs = omega arith
+
+write-coefficients-requires : tie.Need-write-coefficients-requires
+write-coefficients-requires c κs =
+    let report = c .before .before .before .before .before .before .before .args .report in
+    omega (arith, c .before .before .before .write-status .ensures .place, length-report (report .stop) (report .refits) (report .kept .0))
+
+same-length : tie.Need-same-length
+same-length c = search needs
+
+returns : tie.Need-returns
+returns c =
+    let after-status = c .before .before .before .before .before .before in
+    written-then (omega arith) (after-status .write-status .ensures) (c .before .before .write-coefficients .ensures)
+
+pub write-fit-spec : {M : Type 1} → statement M
+write-fit-spec = tie.close (tie.spec write-status-requires write-coefficients-requires same-length returns)

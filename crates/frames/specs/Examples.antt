@@ -1,0 +1,82 @@
+-- Refused inputs, by computing. Assumes nothing.
+use mathlib.Core.Path.{_≡_, refl}
+use mathlib.Core.List.{List, [], _∷_}
+use Prim.Native.Nat.{ℕ}
+use Prim.Native.Char.{code}
+use Prim.Native.String as S
+use Prim.Native.String.{String}
+use lib.Ieee.{toBits, isNan}
+use Rattle.hex.specs.All.{all}
+use Rattle.hex.specs.Hex as H
+use Rattle.frames.specs.Header as D
+use Rattle.frames.specs.Rows as R
+use Rattle.frames.specs.Answer as A
+use Rattle.frames.specs.Exchange as X
+use Rattle.frames.specs.Exchange.{answer-of}
+
+-- the bytes of a text
+unfoldable pub text : String → List ℕ
+text S.[] = []
+text (S._∷_ c s) = code c ∷ text s
+
+-- all that the frames compute with
+unfoldable pub framed : Unit {0}
+unfolding text toBits isNan all H.value H.glyph H.all-hex H.number H.digits H.bits D.header-formed D.header D.head-of
+    R.row-at R.row-formed R.rows-formed A.refusal-line A.report-line A.coefficient-lines
+    X.checked X.fit-of X.fit-lines X.answer-lines X.answer-to X.answer-of
+framed = tt
+
+-- an empty input, a header with no newline, a digit too many, a carriage return, an uppercase digit, a solver that is not there
+pub empty : answer-of (text "") ≡ text "ff0b\n"
+unfolding framed
+empty = refl
+
+pub no-newline : answer-of (text "01000000000a3fe00000000000000000000000000000") ≡ text "ff0b\n"
+unfolding framed
+no-newline = refl
+
+pub digit-more : answer-of (text "01000000000a3fe000000000000000000000000000000\n") ≡ text "ff0b\n"
+unfolding framed
+digit-more = refl
+
+pub carriage-return : answer-of (text "01000000000a3fe00000000000000000000000000000\r\n") ≡ text "ff0b\n"
+unfolding framed
+carriage-return = refl
+
+pub uppercase : answer-of (text "01000000000A3fe00000000000000000000000000000\n") ≡ text "ff0b\n"
+unfolding framed
+uppercase = refl
+
+pub solver-03 : answer-of (text "03ffffffffff3fe00000000000000000000000000000\n") ≡ text "ff0b\n"
+unfolding framed
+solver-03 = refl
+
+-- columns past their limit come first, then rows, then max_iter, all before a row that is missing
+pub columns : answer-of (text "01ffffffffff3fe00000000000000000000000000000\n") ≡ text "ff01\n"
+unfolding framed
+columns = refl
+
+pub rows : answer-of (text "01008110ffff3fe00000000000000000000000000000\n") ≡ text "ff02\n"
+unfolding framed
+rows = refl
+
+pub rounds : answer-of (text "0100801003e93fe00000000000000000000000000000\n") ≡ text "ff03\n"
+unfolding framed
+rounds = refl
+
+pub row-missing : answer-of (text "0100801003e83fe00000000000000000000000000000\n") ≡ text "ff0b\n"
+unfolding framed
+row-missing = refl
+
+-- a row with no newline at the end, a row short by a digit, and a byte after the last frame
+pub row-end : answer-of (text "01000100000a3fe00000000000000000000000000000\n3ff0000000000000") ≡ text "ff0b\n"
+unfolding framed
+row-end = refl
+
+pub row-short : answer-of (text "01000100000a3fe00000000000000000000000000000\n3ff000000000000\n") ≡ text "ff0b\n"
+unfolding framed
+row-short = refl
+
+pub tail : answer-of (text "01000100000a3fe00000000000000000000000000000\n3ff0000000000000\n\n") ≡ text "ff0b\n"
+unfolding framed
+tail = refl

@@ -1,0 +1,11 @@
+-- The exchange of the bench program. Assumes nothing.
+pub mod Header
+pub mod Rows
+pub mod Answer
+pub mod Exchange
+pub mod Cases
+pub mod Lines
+pub mod Within
+pub mod ReadBack
+pub mod Unique
+pub mod Examples

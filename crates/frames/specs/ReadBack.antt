@@ -1,0 +1,79 @@
+-- Reading back an answer gives the report and the coefficients that were written. Assumes nothing.
+use mathlib.Core.Path.{_≡_, refl, ap, _∙_}
+use mathlib.Core.List.{List, [], _∷_, _++_, append-assoc}
+use Prim.Native.Nat.{ℕ, suc, _+_, _*_, _^_, _≤_, _<_}
+use native.Mathlib.Omega.{arith}
+use lib.Dec.{T, lit<}
+use lib.ListN.{length, take, drop, length-append}
+use lib.Seq.{split-at, append-snoc, length-take-le}
+use lib.Ieee.{Float, nan, binary64, fits}
+use Rattle.steps.specs.Num.{at}
+use Rattle.hex.specs.Hex.{number, float, digits, bits, newline}
+use Rattle.hex.specs.ReadBack.{length-digits, read-back, float-back}
+use Rattle.rule.specs.Rule.{Fit}
+use Rattle.rule.specs.Codes.{stop-code}
+use Rattle.rule.specs.declared.Stop.{Stop}
+use Rattle.rule.specs.declared.Stop.the-variants.{NoData, FirstRefused, Empty, RefitRefused, Settled, OutOfRounds}
+use Rattle.frames.specs.Answer.{report-line, coefficient-lines}
+use Rattle.frames.specs.Header.{head-of}
+use Rattle.frames.specs.Exchange.{checked, fit-of, fit-lines, answer-lines, answer-of}
+use Rattle.frames.specs.Cases.{answer-good, accepted}
+use Rattle.frames.specs.Lines.{lines-append, length-lines, length-report}
+use Rattle.frames.specs.Within.{refits-within, kept-within}
+use Rattle.frames.specs.declared.header.Header.{Header}
+use Rattle.frames.specs.declared.header.Head.the-variants.{Good}
+use Rattle.refusal.specs.declared.Answer.the-variants.{Done}
+
+-- what the digits of an answer say of a fit
+pub record Says (a : List ℕ) (f : Fit) : Type 0 where
+  pub stop : number a 0 2 ≡ stop-code (f .stop)
+  pub refits : number a 2 4 ≡ f .refits
+  pub kept : number a 6 16 ≡ f .kept
+  pub coefficient : (j : ℕ) → j < length (f .coeffs) → float a (23 + 17 * j) ≡ at (f .coeffs) j
+
+code-lt : (s : Stop) → stop-code s < 16 ^ 2
+code-lt NoData = lit< tt
+code-lt FirstRefused = lit< tt
+code-lt Empty = lit< tt
+code-lt RefitRefused = lit< tt
+code-lt Settled = lit< tt
+code-lt OutOfRounds = lit< tt
+
+-- a number whose digits stand in a text, and where
+number-in : (s before after : List ℕ) (a n w : ℕ) → s ≡ before ++ (digits n w ++ after) → length before ≡ a → w < 16 ^ n → number s a n ≡ w
+number-in s before after a n w e len h = rw (e, ← len) (read-back n w before after h)
+
+-- the line of coefficient j has those of the coefficients before it in front
+line-at : (xs : List Float) (j : ℕ) → j < length xs → coefficient-lines xs ≡ coefficient-lines (take j xs) ++ (digits 16 (bits (at xs j)) ++ (newline ∷ coefficient-lines (drop (suc j) xs)))
+unfolding coefficient-lines
+line-at xs j h =
+    ap coefficient-lines (split-at xs j nan h) ∙ lines-append (take j xs) _
+    ∙ ap (λ (t : List ℕ). coefficient-lines (take j xs) ++ t) (append-snoc (digits 16 (bits (at xs j))) newline (coefficient-lines (drop (suc j) xs)))
+
+module _ (report : List ℕ) (xs : List Float) (j : ℕ) (h : j < length xs) (f : T (fits binary64 (at xs j))) where
+  coefficient-back : length report ≡ 23 → float (report ++ coefficient-lines xs) (23 + 17 * j) ≡ at xs j
+  coefficient-back len =
+      let before = report ++ coefficient-lines (take j xs) in
+      let place : length before ≡ 23 + 17 * j = omega (arith, len, length-append report (coefficient-lines (take j xs)), length-lines (take j xs), length-take-le j xs (let q : j ≤ length xs = omega arith in q)) in
+      rw (line-at xs j h, ← append-assoc report (coefficient-lines (take j xs)), ← place) (float-back (at xs j) before _ f)
+
+-- lines say what was written, where its digits hold it
+lines-read-back : (f : Fit) → f .refits < 16 ^ 4 → f .kept < 16 ^ 16 → ((j : ℕ) → j < length (f .coeffs) → T (fits binary64 (at (f .coeffs) j))) → Says (fit-lines f) f
+unfolding fit-lines report-line
+lines-read-back f r k g =
+    let stop = digits 2 (stop-code (f .stop)) in
+    let refits = digits 4 (f .refits) in
+    let lines = (newline ∷ []) ++ coefficient-lines (f .coeffs) in
+    record {
+      stop = number-in _ [] (refits ++ (digits 16 (f .kept) ++ lines)) 0 2 _ (simp append-assoc) refl (code-lt (f .stop));
+      refits = number-in _ stop (digits 16 (f .kept) ++ lines) 2 4 _ (simp append-assoc) (length-digits 2 _) r;
+      kept = number-in _ (stop ++ refits) lines 6 16 _ (simp append-assoc) (simp (length-append, length-digits)) k;
+      coefficient = λ j h. coefficient-back (report-line (f .stop) (f .refits) (f .kept)) (f .coeffs) j h (g j h) (length-report (f .stop) (f .refits) (f .kept));
+    }
+
+-- the answer to an accepted input says its fit: the stop, the refits, the kept word, and each coefficient, a NaN as a NaN
+pub answer-read-back : (s : List ℕ) (h : Header) → head-of s ≡ Good h → checked s h ≡ Done → ((j : ℕ) → j < length (fit-of s h .coeffs) → T (fits binary64 (at (fit-of s h .coeffs) j))) → Says (answer-of s) (fit-of s h)
+unfolding answer-lines
+answer-read-back s h e c g =
+    let ok = accepted s h c in
+    rw (answer-good s h Done e c) (lines-read-back (fit-of s h) (refits-within s h ok) (kept-within s h ok) g)

@@ -1,0 +1,2 @@
+// Hex digits in slices of bytes, for the crates above: nothing here is a public call.
+pub mod inner;
