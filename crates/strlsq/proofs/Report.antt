@@ -37,7 +37,7 @@ reports solver setup theta target rows n stop refits kept cs cs' l l' r p k =
     let last : cs' ≡ pruned (problem-of solver setup theta target rows n) cs = p ∙ ap (λ (m : ℕ). tab m (λ j. cond (clears (setup .threshold) j (at cs j)) +zero (at cs j))) l in
     record {
       report = rw (r .ends, ← r .counts) (ap (λ (w : ℕ). record { stop = stop; refits = refits; kept = record { 0 = w } }) (k ∙ ap (word _) l' ∙ ap (λ (c : List Float). word (λ j. keeps (setup .threshold) j (at c j)) n) last));
-      coeffs = last ∙ sym (ap (λ f. f .coeffs) (r .ends))
+      coeffs = last ∙ sym (ap (λ f. f .coeffs) (r .ends));
     }
 
 -- a refusal leaves all unchanged

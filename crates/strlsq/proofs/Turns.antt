@@ -76,8 +76,8 @@ module _ (P : Problem) where
     pub again : {x : List Float} → w ≢ 0 → w ≢ last → Placed (P .cols) w (P .solve w) x → Going P (r + 1) x w (k + 1)
     unfolding refit
     again z e p = record {
-        refitted = w ∷ g .refitted;
-        state = ap (rounds P) (add-one r) ∙ solving z e ∙ rw (p .solves, p .puts);
-        last-is = refl;
-        count-is = add-one k ∙ ap suc (g .count-is)
-      }
+      refitted = w ∷ g .refitted;
+      state = ap (rounds P) (add-one r) ∙ solving z e ∙ rw (p .solves, p .puts);
+      last-is = refl;
+      count-is = add-one k ∙ ap suc (g .count-is);
+    }

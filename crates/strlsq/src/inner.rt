@@ -82,19 +82,41 @@ fn rounds(
         let support = support_of(coeffs, setup.threshold);
         if support.same(Support::empty()) {
             clear(coeffs, n_cols);
-            return Ran { stop: Stop::Empty, refits };
+            return Ran {
+                stop: Stop::Empty,
+                refits,
+            };
         }
         if support.same(last) {
-            return Ran { stop: Stop::Settled, refits };
+            return Ran {
+                stop: Stop::Settled,
+                refits,
+            };
         }
         last = support;
         refits += 1;
-        let Solved::Done = solve_terms(solver, theta, n_rows, n_cols, target, setup, support, coeffs, ws) else {
+        let Solved::Done = solve_terms(
+            solver,
+            theta,
+            n_rows,
+            n_cols,
+            target,
+            setup,
+            support,
+            coeffs,
+            ws,
+        ) else {
             clear(coeffs, n_cols);
-            return Ran { stop: Stop::RefitRefused, refits };
+            return Ran {
+                stop: Stop::RefitRefused,
+                refits,
+            };
         };
     }
-    Ran { stop: Stop::OutOfRounds, refits }
+    Ran {
+        stop: Stop::OutOfRounds,
+        refits,
+    }
 }
 
 // A fit, all but its last pass.
@@ -113,14 +135,33 @@ fn run(
 {
     if n_rows == 0 {
         clear(coeffs, n_cols);
-        return Ran { stop: Stop::NoData, refits: 0 };
+        return Ran {
+            stop: Stop::NoData,
+            refits: 0,
+        };
     }
     if n_cols == 0 {
-        return Ran { stop: Stop::NoData, refits: 0 };
+        return Ran {
+            stop: Stop::NoData,
+            refits: 0,
+        };
     }
-    let Solved::Done = solve_terms(solver, theta, n_rows, n_cols, target, setup, Support::full(n_cols), coeffs, ws) else {
+    let Solved::Done = solve_terms(
+        solver,
+        theta,
+        n_rows,
+        n_cols,
+        target,
+        setup,
+        Support::full(n_cols),
+        coeffs,
+        ws,
+    ) else {
         clear(coeffs, n_cols);
-        return Ran { stop: Stop::FirstRefused, refits: 0 };
+        return Ran {
+            stop: Stop::FirstRefused,
+            refits: 0,
+        };
     };
     rounds(solver, theta, n_rows, n_cols, target, setup, coeffs, ws)
 }
@@ -143,7 +184,11 @@ fn fitted(
     prune(coeffs, setup.threshold);
     let kept = support_of(coeffs, setup.threshold);
     let stop = ran.stop;
-    Report { stop, refits: ran.refits, kept }
+    Report {
+        stop,
+        refits: ran.refits,
+        kept,
+    }
 }
 
 // The fit by a solver: total, and what both public fits are.
@@ -181,7 +226,16 @@ pub fn fit(
     if workspace.len() < need {
         return Fitted::Refused(Refusal::WorkspaceShort);
     }
-    let report = fitted(solver, theta, n_rows, n_cols, target, setup, coeffs, &mut workspace[0..need]);
+    let report = fitted(
+        solver,
+        theta,
+        n_rows,
+        n_cols,
+        target,
+        setup,
+        coeffs,
+        &mut workspace[0..need],
+    );
     clear(workspace, need);
     Fitted::Fit(report)
 }

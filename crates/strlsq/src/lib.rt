@@ -1,5 +1,6 @@
 // Both fits, over one loop.
 pub mod inner;
+
 ghost use Rattle.rule.specs.Calls.{FitCall};
 use rule::Fitted;
 use rule::Setup;
@@ -17,7 +18,16 @@ pub fn strlsq(
 ) -> Fitted
     ensures { λ r. ⌜ FitCall Solver.Normal (now (theta .entry)) (now (target .entry)) «n_rows» «n_cols» setup (now (coeffs .entry)) (now (coeffs .exit)) (now (workspace .entry)) (now (workspace .exit)) r ⌝ }
 {
-    inner::fit(Solver::Normal, theta, n_rows, n_cols, target, setup, coeffs, workspace)
+    inner::fit(
+        Solver::Normal,
+        theta,
+        n_rows,
+        n_cols,
+        target,
+        setup,
+        coeffs,
+        workspace,
+    )
 }
 
 // The same, each solve by least squares.
@@ -32,5 +42,14 @@ pub fn strlsq_qr(
 ) -> Fitted
     ensures { λ r. ⌜ FitCall Solver.Qr (now (theta .entry)) (now (target .entry)) «n_rows» «n_cols» setup (now (coeffs .entry)) (now (coeffs .exit)) (now (workspace .entry)) (now (workspace .exit)) r ⌝ }
 {
-    inner::fit(Solver::Qr, theta, n_rows, n_cols, target, setup, coeffs, workspace)
+    inner::fit(
+        Solver::Qr,
+        theta,
+        n_rows,
+        n_cols,
+        target,
+        setup,
+        coeffs,
+        workspace,
+    )
 }

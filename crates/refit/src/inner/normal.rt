@@ -8,12 +8,12 @@ ghost use Rattle.builders.specs.Products.{columns, ridge};
 ghost use Rattle.rule.specs.Calls.{fit-need};
 ghost use Rattle.rule.specs.Fits.{by-normal};
 ghost use Rattle.refit.specs.Parts.{Sized, gave, over-support, placed};
+use super::coeffs::scatter;
 use builders::inner::jtj_of;
 use builders::inner::jtr_of;
 use refusal::Solved;
 use rule::Solver;
 use solve::inner::normal::normal_equations_packed;
-use super::coeffs::scatter;
 use support::Support;
 
 // The values by reduced place, in b. The workspace is [matrix k * k | copy k * k].
@@ -53,7 +53,16 @@ pub fn solve_normal(
 {
     let n_active = support.count();
     let f = 2 * (n_active * n_active);
-    let solved = normal_values(theta, n_rows, n_cols, target, lambda, support, &mut coeffs[0..n_active], &mut ws[0..f]);
+    let solved = normal_values(
+        theta,
+        n_rows,
+        n_cols,
+        target,
+        lambda,
+        support,
+        &mut coeffs[0..n_active],
+        &mut ws[0..f],
+    );
     let Solved::Done = solved else {
         return solved;
     };

@@ -131,10 +131,15 @@ loop-again c =
     let not-empty = tested-no _ _ 0 (c .before .before .before .before .before .before .before .before .before .before .before .before .same .ensures) (c .before .before .before .before .before .before .before .before .before .before .before .before .before .empty2 .ensures) (c .before .before .before .before .before .before .before .before .before .before .before .if1 .left) in
     let not-last = tested-no _ _ _ (c .before .before .before .before .before .before .before .before .before .before .same2 .ensures) refl (c .before .before .before .before .before .before .before .before .before .if2 .left) in
     let long = turn .inv .3 ∙ start .pre .1 in
-    let l : turn .round < a .setup .«max_iter» = omega (arith, c .before .before .before .before .before .before .before .before .before .before .before .before .before .before .before .before .loop-test .taken, turn .inv .0) in
-    (turn .inv .0, omega (arith, c .before .before .before .before .before .before .before .before .before .before .before .before .before .before .before .before .loop-test .taken), ap (λ (x : ℕ). x + 1) (turn .inv .2), c .before .before .before .before .before .before .solve-terms .kept .1 .1 .1 .1 .1 .1 .1 .0 ∙ turn .inv .3, c .before .before .before .before .before .before .solve-terms .kept .1 .1 .1 .1 .1 .1 .1 .1 .0 ∙ turn .inv .4,
-    turn-again (a .solver) (a .setup) (now (a .theta)) (now (a .target)) (a .n-rows) (a .n-cols) (turn .inv .5) l long
-    _ (c .before .before .before .before .before .before .before .before .before .before .before .before .before .before .support-of .ensures) (solve .result) (solve .last .1 .1 .1 .1 .1 .1 .1 .0) not-empty not-last (told .1) (solve .ensures))
+    let l : turn .round < a .setup .«max_iter» = omega (arith, c .before .before .before .before .before .before .before .before .before .before .before .before .before .before .before .before .loop-test .taken, turn .inv .0) in (
+      turn .inv .0,
+      omega (arith, c .before .before .before .before .before .before .before .before .before .before .before .before .before .before .before .before .loop-test .taken),
+      ap (λ (x : ℕ). x + 1) (turn .inv .2),
+      c .before .before .before .before .before .before .solve-terms .kept .1 .1 .1 .1 .1 .1 .1 .0 ∙ turn .inv .3,
+      c .before .before .before .before .before .before .solve-terms .kept .1 .1 .1 .1 .1 .1 .1 .1 .0 ∙ turn .inv .4,
+      turn-again (a .solver) (a .setup) (now (a .theta)) (now (a .target)) (a .n-rows) (a .n-cols) (turn .inv .5) l long
+          _ (c .before .before .before .before .before .before .before .before .before .before .before .before .before .before .support-of .ensures) (solve .result) (solve .last .1 .1 .1 .1 .1 .1 .1 .0) not-empty not-last (told .1) (solve .ensures),
+    )
 
 same-length-7 : tie.Need-same-length-7 Inv-loop μ-loop
 same-length-7 c = c .before .loop .inv .3

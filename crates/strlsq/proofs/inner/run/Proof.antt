@@ -68,10 +68,14 @@ rounds-requires c κs =
     let start = c .before .before .before .before .before .before .before .before .before .before .before .before .before .before .before .before .before .before in
     let a = start .args in
     let told = c .before .before .enum-told .given in
-    let solve = c .before .before .before .before .before .before .before .before .solve-terms in
-    (start .pre .0, solve .kept .1 .1 .1 .1 .1 .1 .1 .0 ∙ start .pre .1, solve .kept .1 .1 .1 .1 .1 .1 .1 .1 .0 ∙ start .pre .2, start .pre .3,
-    first-goes (a .solver) (a .setup) (now (a .theta)) (now (a .target)) (a .n-rows) (a .n-cols) (c .before .before .before .before .before .before .before .before .before .before .before .before .before .if1 .left) (c .before .before .before .before .before .before .before .before .before .before .before .before .if2 .left) (start .pre .0 .cols)
-    (c .before .before .before .before .before .before .before .before .before .before .before .full .result .0) (c .before .before .before .before .before .before .before .before .before .before .before .full .ensures) (solve .result) (solve .last .1 .1 .1 .1 .1 .1 .1 .0) (told .1) (solve .ensures))
+    let solve = c .before .before .before .before .before .before .before .before .solve-terms in (
+      start .pre .0,
+      solve .kept .1 .1 .1 .1 .1 .1 .1 .0 ∙ start .pre .1,
+      solve .kept .1 .1 .1 .1 .1 .1 .1 .1 .0 ∙ start .pre .2,
+      start .pre .3,
+      first-goes (a .solver) (a .setup) (now (a .theta)) (now (a .target)) (a .n-rows) (a .n-cols) (c .before .before .before .before .before .before .before .before .before .before .before .before .before .if1 .left) (c .before .before .before .before .before .before .before .before .before .before .before .before .if2 .left) (start .pre .0 .cols)
+          (c .before .before .before .before .before .before .before .before .before .before .before .full .result .0) (c .before .before .before .before .before .before .before .before .before .before .before .full .ensures) (solve .result) (solve .last .1 .1 .1 .1 .1 .1 .1 .0) (told .1) (solve .ensures),
+    )
 
 same-length-4 : tie.Need-same-length-4
 same-length-4 c = c .before .before .before .before .rounds .kept .1 .1 .1 .1 .1 .1 .0 ∙ c .before .before .before .before .before .before .before .before .before .before .before .before .before .solve-terms .kept .1 .1 .1 .1 .1 .1 .1 .0

@@ -51,10 +51,12 @@ loop-again c =
     let turn = c .before .before .before .loop in
     let a = c .before .before .before .before .before .args in
     let pass : ℕ → Float → Float = λ k x. cond (clears (a .threshold) k x) +zero x in
-    let cs₀ = now (a .coeffs) in
-    (refl, omega arith,
-    wrote-more (λ k. k) 0 (turn .j) (λ k. pass k (at cs₀ k)) cs₀ (turn .coeffs) _ (omega arith) (omega arith) (λ k h h' e. omega arith) (turn .inv .2)
-      (c .pruned .ensures ∙ ap (pass (turn .j)) (wrote-now (λ k. k) 0 (turn .j) _ cs₀ (turn .coeffs) (λ k h h' e. omega arith) (turn .inv .2))))
+    let cs₀ = now (a .coeffs) in (
+      refl,
+      omega arith,
+      wrote-more (λ k. k) 0 (turn .j) (λ k. pass k (at cs₀ k)) cs₀ (turn .coeffs) _ (omega arith) (omega arith) (λ k h h' e. omega arith) (turn .inv .2)
+          (c .pruned .ensures ∙ ap (pass (turn .j)) (wrote-now (λ k. k) 0 (turn .j) _ cs₀ (turn .coeffs) (λ k h h' e. omega arith) (turn .inv .2))),
+    )
 
 same-length : tie.Need-same-length Inv-loop μ-loop
 same-length c = c .before .loop .inv .2 .long

@@ -55,9 +55,10 @@ jtr-of-requires c κs =
 normal-equations-packed-requires : tie.Need-normal-equations-packed-requires
 normal-equations-packed-requires c κs =
     let start = c .before .before .before .before .before .before .before .before .before .before .before .before .before .before .before in
-    let count = c .before .before .before .before .before .before .before .before .before .before .count in
-    (simp (length-append, length-drop) (omega (arith, square _ _ (count .ensures), start .pre .3, simp length-take at (c .before .before .before .before .before .before .before .before .jtj-of .kept .1 .1 .1 .1 .1 .0))),
-    c .before .before .before .before .jtr-of .kept .1 .1 .1 .1 .1 .0 ∙ start .pre .2 ∙ sym (count .ensures))
+    let count = c .before .before .before .before .before .before .before .before .before .before .count in (
+      simp (length-append, length-drop) (omega (arith, square _ _ (count .ensures), start .pre .3, simp length-take at (c .before .before .before .before .before .before .before .before .jtj-of .kept .1 .1 .1 .1 .1 .0))),
+      c .before .before .before .before .jtr-of .kept .1 .1 .1 .1 .1 .0 ∙ start .pre .2 ∙ sym (count .ensures),
+    )
 
 same-length : tie.Need-same-length
 same-length c = search needs
@@ -72,7 +73,7 @@ returns c =
     let count = c .before .before .before .before .before .before .before .before .before .before .before .before .before .before .before .count in
     let matrix = c .before .before .before .before .before .before .before .before .before .before .before .before .before .jtj-of in
     let long : length (matrix .last .1 .1 .1 .1 .1 .0) ≡ count .result * count .result =
-        omega (arith, square _ _ (count .ensures), start .pre .3, simp length-take at (matrix .kept .1 .1 .1 .1 .1 .0)) in
+    omega (arith, square _ _ (count .ensures), start .pre .3, simp length-take at (matrix .kept .1 .1 .1 .1 .1 .0)) in
     ap solution (c .before .before .before .before .normal-equations-packed .ensures ∙ normal-of (count .result) _ (matrix .last .1 .1 .1 .1 .1 .0) _ _ _ _ (count .ensures) long (matrix .ensures) (c .before .before .before .before .before .before .before .before .before .jtr-of .ensures))
 
 pub normal-values-spec : {M : Type 1} → statement M
