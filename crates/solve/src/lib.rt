@@ -56,18 +56,18 @@ pub fn solve_normal_equations(a: &[f64], b: &mut [f64], n: usize, workspace: &mu
     if n > 64 {
         return Answer::Refused(Refusal::ManyColumns);
     }
-    let need = n * n;
-    if a.len() != need {
+    let cells = n * n;
+    if a.len() != cells {
         return Answer::Refused(Refusal::MatrixLength);
     }
     if b.len() != n {
         return Answer::Refused(Refusal::TargetLength);
     }
-    if workspace.len() < need {
+    if workspace.len() < cells {
         return Answer::Refused(Refusal::WorkspaceShort);
     }
-    let solved = normal_equations(a, b, n, &mut workspace[0..need]);
-    clear(workspace, need);
+    let solved = normal_equations(a, b, n, &mut workspace[0..cells]);
+    clear(workspace, cells);
     let Solved::Done = solved else {
         return Answer::Refused(Refusal::SmallPivot);
     };

@@ -21,18 +21,18 @@ solved c =
     let solve = c .before .before .before .before .before .before .before .before in
     let tests = solve .before .before .before in
     let start = tests .before .before .before .before .before .before .before in
-    let need = start .args .n * start .args .n in
+    let cells = start .args .n * start .args .n in
     let fits = normal-fits _ _ _ _ (tests .before .before .before .if1 .left) (tests .before .before .if2 .left) (tests .before .if3 .left) (tests .if4 .left) in
     normal-accepted _ _ _ (solve .normal-equations .result) _ _ _ fits (solve .normal-equations .ensures)
-    (c .before .before .clear .ensures ∙ cleared-with 0 need need (solve .normal-equations .last .1 .1 .1 .0) (now (start .args .workspace)) (omega arith) (omega arith) (tests .if4 .left)
+    (c .before .before .clear .ensures ∙ cleared-with 0 cells cells (solve .normal-equations .last .1 .1 .1 .0) (now (start .args .workspace)) (omega arith) (omega arith) (tests .if4 .left)
     (solve .normal-equations .kept .1 .1 .1 .0 ∙ simp length-take (omega (arith, tests .if4 .left))))
 
 returns : tie.Need-returns
 unfolding normal-sizes
 returns c = normal-refused _ _ _ _ _ (many-columns _ _ _ _ (c .if1 .taken))
 
-mul-need : tie.Need-mul-need
-mul-need c = omega (arith, mul-le-mul (c .if1 .left) (c .if1 .left))
+mul-cells : tie.Need-mul-cells
+mul-cells c = omega (arith, mul-le-mul (c .if1 .left) (c .if1 .left))
 
 returns-2 : tie.Need-returns-2
 unfolding normal-sizes
@@ -89,4 +89,4 @@ returns-6 c = rw (c .enum-told .given .1) at (solved (c .before .before))
 pub solve-normal-equations-spec : {M : Type 1} → statement M
 solve-normal-equations-spec =
     tie.close
-    (tie.spec returns mul-need returns-2 returns-3 returns-4 sub-normal-equations part-normal-equations-start part-normal-equations-end normal-equations-requires clear-requires enum-told enum-told-2 same-length same-length-2 returns-5 same-length-3 same-length-4 returns-6)
+    (tie.spec returns mul-cells returns-2 returns-3 returns-4 sub-normal-equations part-normal-equations-start part-normal-equations-end normal-equations-requires clear-requires enum-told enum-told-2 same-length same-length-2 returns-5 same-length-3 same-length-4 returns-6)
