@@ -5,25 +5,10 @@ ghost use lib.ListN.{length};
 ghost use Rattle.steps.specs.Num.{plus, times, +zero, at, cell as cell-of};
 ghost use Rattle.steps.specs.Wrote.{Wrote};
 ghost use Rattle.builders.specs.Products.{gram, moment};
-ghost use Rattle.builders.specs.Inner.{Lists, Listed, listed, Held};
+ghost use Rattle.builders.specs.Inner.{Listed, listed, Held};
 use slices::inner::cell;
 use support::Col;
-use support::Support;
 use support::Term;
-
-// Lists the term number of each reduced place.
-pub fn list_terms(support: Support, n_cols: usize, terms: &mut [usize])
-    requires { ⌜ (support .0 < 2 ^ «n_cols») × («n_cols» ≤ length (now terms)) ⌝ }
-    ensures { λ _. ⌜ Lists «n_cols» (support .0) (now (terms .exit)) ⌝ }
-{
-    for j in 0..n_cols {
-        let t = Term(j);
-        if support.contains(t) {
-            let p = support.place(t).0;
-            terms[p] = t.0;
-        }
-    }
-}
 
 // Row i of the column of theta that has this term number.
 fn at_term(theta: &[f64], n_cols: usize, i: usize, t: Term) -> f64

@@ -8,8 +8,7 @@ use native.Mathlib.Nat.{eq-or-lt-of-le, mul-le-mul, sub-zero, zero-add}
 use native.Mathlib.Omega.{arith}
 use lib.Count.{ones, ones-le}
 use lib.Dec.{eqb}
-use lib.ListN.{length, getD, set, replicate, length-replicate, getD-replicate}
-use lib.Seq.{getD-set-same, getD-set-other}
+use lib.ListN.{length, getD, replicate, length-replicate, getD-replicate}
 use lib.Ieee.{Float, nan}
 use borrow.Author.Tests.{lt-ltb, le-ltb}
 use Rattle.steps.specs.Num.{+zero, at, cell}
@@ -21,17 +20,10 @@ use Rattle.steps.specs.Rows.{Rows, rows-apart}
 use Rattle.support.specs.Word.{term}
 use Rattle.support.specs.CountLaws.{ones-is}
 use Rattle.support.specs.TermLaws.{term-is}
+use Rattle.builders.specs.Inner.{Lists}
 use Rattle.builders.specs.Products.{columns}
 use Rattle.rule.specs.Fits.{augmented, padded}
-use Rattle.refit.specs.Parts.{Sized, Lists, Ridged}
-
--- one more term number stands in the list
-pub lists-more : (n w c x : ℕ) (l : List ℕ) → ((k : ℕ) → k < c → getD l k 0 ≡ term n w k) → c < length l → x ≡ term n w c → (k : ℕ) → k < c + 1 → getD (set l c x) k 0 ≡ term n w k
-lists-more n w c x l all h e k b =
-    ⊎-elim
-    (λ q. subst (λ (j : ℕ). getD (set l c x) j 0 ≡ term n w j) (sym q) (getD-set-same l c x 0 h ∙ e))
-    (λ z. getD-set-other l c k x 0 (λ q. omega arith) ∙ all k z)
-    (eq-or-lt-of-le (let z : k ≤ c = omega arith in z))
+use Rattle.refit.specs.Parts.{Sized, Ridged}
 
 -- a listed term number is a column
 pub listed-lt : (n w : ℕ) (l : List ℕ) → w < 2 ^ n → Lists n w l → (c : ℕ) → c < ones w → getD l c 0 < n

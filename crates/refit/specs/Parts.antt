@@ -5,12 +5,11 @@ use mathlib.Core.Bool.{cond}
 use Prim.Native.Nat.{ℕ, _+_, _*_, _≤_, _<_}
 use lib.Count.{ones}
 use lib.Dec.{eqb}
-use lib.ListN.{length, getD}
+use lib.ListN.{length}
 use lib.Ieee.{Float}
 use Rattle.steps.specs.Num.{+zero, at, cell}
 use Rattle.refusal.specs.Answers.{Solution, solved, refused, solution, told}
 use Rattle.refusal.specs.declared.Solved.{Solved}
-use Rattle.support.specs.Word.{term}
 use Rattle.builders.specs.Products.{columns}
 use Rattle.rule.specs.Rule.{scatter}
 use Rattle.rule.specs.Fits.{solves}
@@ -22,10 +21,6 @@ pub record Sized (theta target : List Float) (rows n : ℕ) : Type 0 where
   pub few : rows ≤ 4096
   pub matrix : length theta ≡ rows * n
   pub right : length target ≡ rows
-
--- the list holds the term number of each reduced place of w
-pub record Lists (n w : ℕ) (l : List ℕ) : Type 0 where
-  pub each : (c : ℕ) → c < ones w → getD l c 0 ≡ term n w c
 
 -- the first i of the rows after `rows` have the root on their diagonal; the rows of the matrix before them are as they were
 pub record Ridged (rows k : ℕ) (root : Float) (i : ℕ) (s s' : List Float) : Type 0 where

@@ -15,27 +15,16 @@ ghost use Rattle.refusal.specs.Answers.{told};
 ghost use Rattle.solve.specs.Least.{values};
 ghost use Rattle.rule.specs.Calls.{fit-need};
 ghost use Rattle.rule.specs.Fits.{augmented, padded, by-least};
-ghost use Rattle.refit.specs.Parts.{Sized, Lists, Ridged, gave, over-support, placed};
+ghost use Rattle.refit.specs.Parts.{Sized, Ridged, gave, over-support, placed};
 use super::coeffs::scatter;
+use builders::inner::list_terms;
 use float64::sqrt;
 use refusal::Solved;
 use rule::Solver;
 use slices::inner::clear;
 use slices::inner::copy;
 use solve::inner::least::least_packed;
-use support::Col;
 use support::Support;
-
-// The term numbers of the reduced places.
-fn list_terms(support: Support, n_cols: usize, term_idx: &mut [usize])
-    requires { ⌜ («n_cols» ≤ 64) × (support .0 < 2 ^ «n_cols») × (length (now «term_idx») ≡ «n_cols») ⌝ }
-    ensures { λ _. ⌜ Lists «n_cols» (support .0) (now («term_idx» .exit)) ⌝ }
-{
-    for col in 0..support.count() {
-        let t = support.term_at(Col(col));
-        term_idx[col] = t.0;
-    }
-}
 
 // A row of the refit: the supported numbers of the row of theta that starts at `from`, to the row that starts at `to`.
 fn take_row(

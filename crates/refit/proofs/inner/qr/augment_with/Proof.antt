@@ -13,7 +13,7 @@ count-requires : tie.Need-count-requires
 count-requires c κs = search needs
 
 list-terms-requires : tie.Need-list-terms-requires
-list-terms-requires c κs = let start = c .before .before .before .before .before in (start .pre .0, start .pre .4, start .pre .1)
+list-terms-requires c κs = let start = c .before .before .before .before .before in (start .pre .4, omega (arith, start .pre .1))
 
 gather-requires : tie.Need-gather-requires
 gather-requires c κs =

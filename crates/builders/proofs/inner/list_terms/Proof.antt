@@ -6,8 +6,8 @@ use native.Mathlib.Omega.{arith}
 use lib.ListN.{length, length-set}
 use Rattle.support.specs.Word.{place}
 use Rattle.builders.proofs.Places.{count-few, place-below, ListedTo, list-none, list-take, list-skip, list-end}
-use Rattle.builders.proofs.walk.list_terms.Statement.{statement}
-use Rattle.builders.proofs.walk.list_terms.Tie as tie
+use Rattle.builders.proofs.inner.list_terms.Statement.{statement}
+use Rattle.builders.proofs.inner.list_terms.Tie as tie
 
 abbrev Inv-loop : tie.InvT-loop
 Inv-loop support n-cols terms₀ j₀ terms j = (j ≤ n-cols) × (length terms ≡ length terms₀) × ListedTo n-cols (support .0) j terms
