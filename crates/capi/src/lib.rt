@@ -1,10 +1,12 @@
 // What a C or Rust program links: thin exports, each with the contract of the call behind it. An answer is 0 or the refusal's number.
+mod fits;
 mod solvers;
 
 ghost use mathlib.Core.Path.{_≡_};
 ghost use Rattle.builders.specs.Calls.{JtjCall, JtrCall};
 ghost use Rattle.capi.specs.Numbered.{Numbered};
 ghost use Rattle.float64.specs.Root.{absOf, rootOf};
+ghost use Rattle.refusal.specs.Answers.{answer-number};
 use refusal::answer_number;
 
 // double dapmotar_sqrt(double x): the square root, rounded once.
@@ -32,7 +34,7 @@ pub extern "C" fn dapmotar_jtj(
     lambda: f64,
     out: &mut [f64],
 ) -> u64
-    ensures { λ r. ⌜ Numbered (JtjCall (now (jac .entry)) «n_rows» «n_params» lambda (now (out .entry)) (now (out .exit))) r ⌝ }
+    ensures { λ r. ⌜ Numbered answer-number (JtjCall (now (jac .entry)) «n_rows» «n_params» lambda (now (out .entry)) (now (out .exit))) r ⌝ }
 {
     answer_number(builders::jtj(jac, n_rows, n_params, lambda, out))
 }
@@ -46,7 +48,7 @@ pub extern "C" fn dapmotar_jtr(
     n_params: usize,
     out: &mut [f64],
 ) -> u64
-    ensures { λ k. ⌜ Numbered (JtrCall (now (jac .entry)) (now (r .entry)) «n_rows» «n_params» (now (out .entry)) (now (out .exit))) k ⌝ }
+    ensures { λ k. ⌜ Numbered answer-number (JtrCall (now (jac .entry)) (now (r .entry)) «n_rows» «n_params» (now (out .entry)) (now (out .exit))) k ⌝ }
 {
     answer_number(builders::jtr(jac, r, n_rows, n_params, out))
 }
