@@ -1,7 +1,13 @@
-// What a C or Rust program links: thin exports, each with the contract of the call behind it.
+// What a C or Rust program links: thin exports, each with the contract of the call behind it. An answer is 0 or the refusal's number.
+mod fits;
+mod solvers;
 
 ghost use mathlib.Core.Path.{_≡_};
-ghost use Rattle.float64.specs.Root.{rootOf, absOf};
+ghost use Rattle.builders.specs.Calls.{JtjCall, JtrCall};
+ghost use Rattle.capi.specs.Numbered.{Numbered};
+ghost use Rattle.float64.specs.Root.{absOf, rootOf};
+ghost use Rattle.refusal.specs.Answers.{answer-number};
+use refusal::answer_number;
 
 // double dapmotar_sqrt(double x): the square root, rounded once.
 #[no_mangle]
@@ -17,4 +23,32 @@ pub extern "C" fn dapmotar_abs(x: f64) -> f64
     ensures { λ r. ⌜ r ≡ absOf x ⌝ }
 {
     float64::abs(x)
+}
+
+// The products of the columns of `jac`, summed over its rows; lambda is added to each diagonal number.
+#[no_mangle]
+pub extern "C" fn dapmotar_jtj(
+    jac: &[f64],
+    n_rows: usize,
+    n_params: usize,
+    lambda: f64,
+    out: &mut [f64],
+) -> u64
+    ensures { λ r. ⌜ Numbered answer-number (JtjCall (now (jac .entry)) «n_rows» «n_params» lambda (now (out .entry)) (now (out .exit))) r ⌝ }
+{
+    answer_number(builders::jtj(jac, n_rows, n_params, lambda, out))
+}
+
+// The products of each column of `jac` and the numbers `r`, summed over the rows.
+#[no_mangle]
+pub extern "C" fn dapmotar_jtr(
+    jac: &[f64],
+    r: &[f64],
+    n_rows: usize,
+    n_params: usize,
+    out: &mut [f64],
+) -> u64
+    ensures { λ k. ⌜ Numbered answer-number (JtrCall (now (jac .entry)) (now (r .entry)) «n_rows» «n_params» (now (out .entry)) (now (out .exit))) k ⌝ }
+{
+    answer_number(builders::jtr(jac, r, n_rows, n_params, out))
 }

@@ -1,6 +1,6 @@
 // The refusals of document 01, and the answers that are made of them.
 ghost use mathlib.Core.Path.{_≡_};
-ghost use Rattle.refusal.specs.Answers.{number};
+ghost use Rattle.refusal.specs.Answers.{answer-number, number};
 
 pub enum Refusal {
     ManyColumns,
@@ -44,5 +44,15 @@ pub fn number(w: Refusal) -> u64
         Refusal::SmallPivot => 9,
         Refusal::FewRows => 10,
         Refusal::Malformed => 11,
+    }
+}
+
+// An answer by number: 0 for done, else the refusal's.
+pub fn answer_number(a: Answer) -> u64
+    ensures { λ r. ⌜ r ≡ answer-number a ⌝ }
+{
+    match a {
+        Answer::Done => 0,
+        Answer::Refused(w) => number(w),
     }
 }

@@ -1,0 +1,3 @@
+-- What the exports answer: the numbers of document 01. Assumes nothing.
+pub mod Numbered
+pub mod Unique

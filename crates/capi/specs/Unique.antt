@@ -1,0 +1,77 @@
+-- Each export's contract determines its answer and every number that it leaves. Assumes nothing.
+use mathlib.Core.Path.{_≡_}
+use mathlib.Core.List.{List}
+use Prim.Native.Nat.{ℕ}
+use lib.Ieee.{Float}
+use Rattle.float64.specs.Root.{rootOf, absOf}
+use Rattle.float64.specs.Unique.{sqrt-unique, abs-unique}
+use Rattle.refusal.specs.Answers.{answer-number}
+use Rattle.builders.specs.Calls.{JtjCall, JtrCall}
+use Rattle.builders.specs.Unique.{jtj-unique, jtr-unique}
+use Rattle.decomp.specs.Calls.{QrCall}
+use Rattle.decomp.specs.Unique.{qr-unique}
+use Rattle.solve.specs.Calls.{CholeskyCall, LuCall, NormalCall, LeastCall}
+use Rattle.solve.specs.Unique.{cholesky-unique, lu-unique, normal-unique, least-unique}
+use Rattle.rule.specs.Calls.{FitCall}
+use Rattle.rule.specs.Codes.{fitted-number}
+use Rattle.rule.specs.Unique.{fit-unique}
+use Rattle.rule.specs.declared.Setup.{Setup}
+use Rattle.rule.specs.declared.Solver.{Solver}
+use Rattle.capi.specs.Numbered.{Numbered, Reported, workspace}
+
+pub export-sqrt-unique : (x r s : Float) → r ≡ rootOf x → s ≡ rootOf x → r ≡ s
+export-sqrt-unique = sqrt-unique
+
+pub export-abs-unique : (x r s : Float) → r ≡ absOf x → s ≡ absOf x → r ≡ s
+export-abs-unique = abs-unique
+
+-- once over the calls: equal answers have equal numbers
+numbered : {A : Type 0} {number-of : A → ℕ} {C D : A → Type 0} {r s : ℕ} (p : Numbered number-of C r) (q : Numbered number-of D s) → p .answer ≡ q .answer → r ≡ s
+numbered p q same = cc
+
+module _ (jac : List Float) (rows n : ℕ) (out out' out'' : List Float) (r s : ℕ) where
+  pub export-jtj-unique : (lambda : Float) → Numbered answer-number (JtjCall jac rows n lambda out out') r → Numbered answer-number (JtjCall jac rows n lambda out out'') s → (r ≡ s) × (out' ≡ out'')
+  export-jtj-unique lambda p q =
+      let same = jtj-unique jac rows n lambda out out' out'' _ _ (p .call) (q .call) in
+      (numbered p q (same .0), same .1)
+
+  pub export-jtr-unique : (t : List Float) → Numbered answer-number (JtrCall jac t rows n out out') r → Numbered answer-number (JtrCall jac t rows n out out'') s → (r ≡ s) × (out' ≡ out'')
+  export-jtr-unique t p q =
+      let same = jtr-unique jac t rows n out out' out'' _ _ (p .call) (q .call) in
+      (numbered p q (same .0), same .1)
+
+module _ (a b : List Float) (n : ℕ) (a' b' a'' b'' : List Float) (r s : ℕ) where
+  pub export-cholesky-unique : Numbered answer-number (CholeskyCall a b n a' b') r → Numbered answer-number (CholeskyCall a b n a'' b'') s → (r ≡ s) × (a' ≡ a'') × (b' ≡ b'')
+  export-cholesky-unique p q =
+      let same = cholesky-unique a b n a' b' a'' b'' _ _ (p .call) (q .call) in
+      (numbered p q (same .0), same .1, same .2)
+
+  pub export-lu-unique : Numbered answer-number (LuCall a b n a' b') r → Numbered answer-number (LuCall a b n a'' b'') s → (r ≡ s) × (a' ≡ a'') × (b' ≡ b'')
+  export-lu-unique p q =
+      let same = lu-unique a b n a' b' a'' b'' _ _ (p .call) (q .call) in
+      (numbered p q (same .0), same .1, same .2)
+
+pub export-normal-unique : (a b : List Float) (n : ℕ) (w b' w' b'' w'' : List Float) (r s : ℕ) → Numbered answer-number (NormalCall a b n b' w w') r → Numbered answer-number (NormalCall a b n b'' w w'') s → (r ≡ s) × (b' ≡ b'') × (w' ≡ w'')
+export-normal-unique a b n w b' w' b'' w'' r s p q =
+    let same = normal-unique a b n w b' w' b'' w'' _ _ (p .call) (q .call) in
+    (numbered p q (same .0), same .1, same .2)
+
+pub export-qr-unique : (a : List Float) (m n : ℕ) (d b w d' b' w' d'' b'' w'' : List Float) (r s : ℕ) → Numbered answer-number (QrCall a m n d d' b b' w w') r → Numbered answer-number (QrCall a m n d d'' b b'' w w'') s → (r ≡ s) × (d' ≡ d'') × (b' ≡ b'') × (w' ≡ w'')
+export-qr-unique a m n d b w d' b' w' d'' b'' w'' r s p q =
+    let same = qr-unique a m n d b w d' b' w' d'' b'' w'' _ _ (p .call) (q .call) in
+    (numbered p q (same .0), same .1, same .2, same .3)
+
+pub export-least-unique : (a b : List Float) (m n : ℕ) (o w o' w' o'' w'' : List Float) (r s : ℕ) → Numbered answer-number (LeastCall a b m n o o' w w') r → Numbered answer-number (LeastCall a b m n o o'' w w'') s → (r ≡ s) × (o' ≡ o'') × (w' ≡ w'')
+export-least-unique a b m n o w o' w' o'' w'' r s p q =
+    let same = least-unique a b m n o w o' w' o'' w'' _ _ (p .call) (q .call) in
+    (numbered p q (same .0), same .1, same .2)
+
+module _ (solver : Solver) (theta target : List Float) (rows n : ℕ) (setup : Setup) (cs w cs' w' cs'' w'' : List Float) (p p' p'' : List ℕ) where
+  pub export-fit-unique : (r s : ℕ) → Numbered fitted-number (Reported (FitCall solver theta target rows n setup cs cs' w w') p p') r → Numbered fitted-number (Reported (FitCall solver theta target rows n setup cs cs'' w w'') p p'') s → (r ≡ s) × (cs' ≡ cs'') × (w' ≡ w'') × (p' ≡ p'')
+  export-fit-unique r s h k =
+      let same = fit-unique solver theta target rows n setup cs w cs' w' cs'' w'' _ _ (h .call .fit) (k .call .fit) in
+      let answers = same .0 in
+      (numbered h k answers, same .1, same .2, cc)
+
+pub export-workspace-unique : (solver : Solver) (rows n r s : ℕ) → r ≡ workspace solver rows n → s ≡ workspace solver rows n → r ≡ s
+export-workspace-unique solver rows n r s p q = cc

@@ -1,0 +1,113 @@
+// Both fits, and the workspace that each needs.
+ghost use mathlib.Core.Path.{_≡_};
+ghost use Rattle.capi.specs.Numbered.{Numbered, Reported, reported, setup-of, workspace};
+ghost use Rattle.rule.specs.Calls.{FitCall};
+ghost use Rattle.rule.specs.Codes.{fitted-number};
+use refusal::number;
+use rule::Fitted;
+use rule::Setup;
+use rule::Solver;
+use rule::stop_code;
+use strlsq::inner::needed;
+
+// A fit's answer by number: 0 for a report, else the refusal's.
+fn fitted_number(answer: Fitted) -> u64
+    ensures { λ r. ⌜ r ≡ fitted-number answer ⌝ }
+{
+    match answer {
+        Fitted::Fit(_) => 0,
+        Fitted::Refused(w) => number(w),
+    }
+}
+
+// Stop, refits and kept word of a fit into `report`; a refusal leaves it unchanged.
+fn put_report(answer: Fitted, report: &mut [u64; 3])
+    ensures { λ _. ⌜ now (report .exit) ≡ reported answer (now (report .entry)) ⌝ }
+{
+    if let Fitted::Fit(f) = answer {
+        let stop = f.stop;
+        let kept = f.kept;
+        *report = [stop_code(stop), f.refits as u64, kept.0];
+    }
+}
+
+// Sequential thresholded ridge regression, each solve by the normal equations. `report` is stop, refits and kept word after a fit.
+#[no_mangle]
+pub extern "C" fn dapmotar_strlsq(
+    theta: &[f64],
+    n_rows: usize,
+    n_cols: usize,
+    target: &[f64],
+    threshold: f64,
+    lambda: f64,
+    max_iter: usize,
+    coeffs: &mut [f64],
+    workspace: &mut [f64],
+    report: &mut [u64; 3],
+) -> u64
+    ensures { λ r. ⌜ Numbered fitted-number (Reported (FitCall Solver.Normal (now (theta .entry)) (now (target .entry)) «n_rows» «n_cols» (setup-of threshold lambda «max_iter») (now (coeffs .entry)) (now (coeffs .exit)) (now (workspace .entry)) (now (workspace .exit))) (now (report .entry)) (now (report .exit))) r ⌝ }
+{
+    let setup = Setup {
+        threshold: threshold,
+        lambda: lambda,
+        max_iter: max_iter,
+    };
+    let answer = strlsq::strlsq(theta, n_rows, n_cols, target, setup, coeffs, workspace);
+    put_report(answer, report);
+    fitted_number(answer)
+}
+
+// The same, each solve by least squares.
+#[no_mangle]
+pub extern "C" fn dapmotar_strlsq_qr(
+    theta: &[f64],
+    n_rows: usize,
+    n_cols: usize,
+    target: &[f64],
+    threshold: f64,
+    lambda: f64,
+    max_iter: usize,
+    coeffs: &mut [f64],
+    workspace: &mut [f64],
+    report: &mut [u64; 3],
+) -> u64
+    ensures { λ r. ⌜ Numbered fitted-number (Reported (FitCall Solver.Qr (now (theta .entry)) (now (target .entry)) «n_rows» «n_cols» (setup-of threshold lambda «max_iter») (now (coeffs .entry)) (now (coeffs .exit)) (now (workspace .entry)) (now (workspace .exit))) (now (report .entry)) (now (report .exit))) r ⌝ }
+{
+    let setup = Setup {
+        threshold: threshold,
+        lambda: lambda,
+        max_iter: max_iter,
+    };
+    let answer = strlsq::strlsq_qr(theta, n_rows, n_cols, target, setup, coeffs, workspace);
+    put_report(answer, report);
+    fitted_number(answer)
+}
+
+// The workspace that a fit needs, in numbers; 0 where the sizes are beyond the limits.
+fn workspace_of(solver: Solver, n_rows: usize, n_cols: usize) -> usize
+    ensures { λ r. ⌜ r ≡ workspace solver «n_rows» «n_cols» ⌝ }
+{
+    if n_cols > 64 {
+        return 0;
+    }
+    if n_rows > 4096 {
+        return 0;
+    }
+    needed(solver, n_rows, n_cols)
+}
+
+// The workspace of `dapmotar_strlsq`.
+#[no_mangle]
+pub extern "C" fn dapmotar_strlsq_workspace(n_rows: usize, n_cols: usize) -> usize
+    ensures { λ r. ⌜ r ≡ workspace Solver.Normal «n_rows» «n_cols» ⌝ }
+{
+    workspace_of(Solver::Normal, n_rows, n_cols)
+}
+
+// The workspace of `dapmotar_strlsq_qr`.
+#[no_mangle]
+pub extern "C" fn dapmotar_strlsq_qr_workspace(n_rows: usize, n_cols: usize) -> usize
+    ensures { λ r. ⌜ r ≡ workspace Solver.Qr «n_rows» «n_cols» ⌝ }
+{
+    workspace_of(Solver::Qr, n_rows, n_cols)
+}
