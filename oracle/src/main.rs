@@ -1,7 +1,7 @@
 //! The oracle's commands.
 
 use oracle::histogram::Histogram;
-use oracle::{frames, generate, pairs, published, table};
+use oracle::{examples, frames, generate, pairs, published, table};
 use std::env;
 use std::ffi::OsString;
 use std::io::{self, Read, Write};
@@ -12,6 +12,7 @@ const USAGE: &str = "oracle table                          document 01's numbers
 oracle fitbench                       answer the frames on standard input
 oracle pairs DIR [PROGRAM..]          hold NAME.in and NAME.out against the reference, or against a program
 oracle gen SEED COUNT [DIR]           make inputs, count the answers, write pairs to a folder
+oracle examples DIR                   write the examples of the bench program with their answers
 oracle fuzz-frames SEED COUNT PROGRAM..   hold a program against the reference on made inputs, a process each";
 
 fn main() -> ExitCode {
@@ -28,6 +29,7 @@ fn main() -> ExitCode {
                 _ => Ok(usage()),
             }
         }
+        ["examples", folder] => examples::write_all(Path::new(folder)).map(|()| ExitCode::SUCCESS),
         ["fuzz-frames", seed, count, _, ..] => match (seed.parse(), count.parse()) {
             (Ok(seed), Ok(count)) => run_fuzz(seed, count, &args[3..]),
             _ => Ok(usage()),

@@ -1,0 +1,63 @@
+-- `fitbench::main` lends the bytes that came, and those of the answer. Assumes nothing.
+use Rattle.io.specs.Counts.{Counts}
+use Rattle.fitbench.specs.Read.{came-whole}
+use borrow.Author.Needs.{needs}
+use Rattle.fitbench.proofs.main.Statement.{statement}
+use Rattle.fitbench.proofs.main.Tie as tie
+
+-- as many bytes came as the pattern binds
+whole-came : (c : tie.After-n) → Counts (c .n .given .0 .0) (c .before .before .before .read-whole .last .0)
+whole-came c = came-whole _ _ _ (c .n .given .1) (c .before .before .before .read-whole .ensures)
+
+slice-aggregate-read-whole : tie.Need-slice-aggregate-read-whole
+slice-aggregate-read-whole c = search needs
+
+read-whole-requires : tie.Need-read-whole-requires
+read-whole-requires c κs = search needs
+
+enum-known-n : tie.Need-enum-known-n
+enum-known-n c = search needs
+
+enum-told : tie.Need-enum-told
+enum-told c = search needs
+
+returns : tie.Need-returns
+returns c = search needs
+
+array-share-prefix-room : tie.Need-array-share-prefix-room
+array-share-prefix-room c = whole-came (c .before) .0
+
+slice-aggregate-answer-to : tie.Need-slice-aggregate-answer-to
+slice-aggregate-answer-to c = whole-came (c .before .before) .1
+
+answer-to-requires : tie.Need-answer-to-requires
+answer-to-requires c κs = search needs
+
+array-share-prefix-answer : tie.Need-array-share-prefix-answer
+array-share-prefix-answer c = search needs
+
+slice-aggregate-write-all : tie.Need-slice-aggregate-write-all
+slice-aggregate-write-all c = search needs
+
+write-all-requires : tie.Need-write-all-requires
+write-all-requires c κs = search needs
+
+returns-2 : tie.Need-returns-2
+returns-2 c = search needs
+
+pub main-spec : {M : Type 1} → statement M
+main-spec =
+    tie.close
+    (tie.spec
+    slice-aggregate-read-whole
+    read-whole-requires
+    enum-known-n
+    enum-told
+    returns
+    array-share-prefix-room
+    slice-aggregate-answer-to
+    answer-to-requires
+    array-share-prefix-answer
+    slice-aggregate-write-all
+    write-all-requires
+    returns-2)

@@ -1,0 +1,130 @@
+//! The examples of the bench program: a day's readings as a bench takes them, from a fixed seed.
+
+use crate::fit::Stop;
+use crate::frames::{answered, write};
+use crate::problem::{Problem, Setup, Solver};
+use crate::rng::Rng;
+use std::io;
+use std::path::Path;
+
+/// An input with its name and the stop that it shows.
+pub struct Example {
+    pub name: &'static str,
+    pub problem: Problem,
+    pub stop: Stop,
+}
+
+pub fn all() -> Vec<Example> {
+    let example = |name, problem, stop| Example {
+        name,
+        problem,
+        stop,
+    };
+    vec![
+        example("f1", f1(), Stop::Settled),
+        example("eight-ports", eight_ports(), Stop::Settled),
+        example("in-series", in_series(0.0), Stop::FirstRefused),
+        example("in-series-damped", in_series(0.0625), Stop::Settled),
+        example("dead-port", dead_port(), Stop::Settled),
+        example("nan-reading", nan_reading(), Stop::Empty),
+    ]
+}
+
+/// Writes NAME.frames and NAME.answer of each example to a folder.
+pub fn write_all(folder: &Path) -> io::Result<()> {
+    std::fs::create_dir_all(folder)?;
+    for example in all() {
+        let input = write(&example.problem);
+        let (answer, _) = answered(&input);
+        std::fs::write(folder.join(format!("{}.frames", example.name)), input)?;
+        std::fs::write(folder.join(format!("{}.answer", example.name)), answer)?;
+    }
+    Ok(())
+}
+
+/// Document 01's F1.
+fn f1() -> Problem {
+    let mut p = Problem::zeros(Solver::Normal, 2, 2, setup(0.5, 0.0));
+    p.theta = vec![1.0, 0.0, 0.0, 1.0];
+    p.target = vec![3.0, 0.25];
+    p
+}
+
+fn setup(threshold: f64, lambda: f64) -> Setup {
+    Setup {
+        threshold,
+        lambda,
+        max_iter: 10,
+    }
+}
+
+/// Readings of every port, and the reference flow: each port's share, and noise.
+fn readings(solver: Solver, rows: usize, shares: &[f64], noise: f64, setup: Setup) -> Problem {
+    let mut rng = Rng::for_part(1, "examples", shares.len() as u64);
+    let mut p = Problem::zeros(solver, rows, shares.len(), setup);
+    for row in 0..rows {
+        for (port, share) in shares.iter().enumerate() {
+            let reading = rng.signed();
+            p.set(row, port, reading);
+            p.target[row] += share * reading;
+        }
+        p.target[row] += noise * rng.signed();
+    }
+    p
+}
+
+/// Eight ports of which four carry the flow; the noise gives the others a little, which the fit drops.
+fn eight_ports() -> Problem {
+    let shares = [1.5, 0.0, -0.75, 0.0, 0.0, 2.25, 0.0, 0.5];
+    readings(Solver::Normal, 24, &shares, 0.2, setup(0.125, 1e-6))
+}
+
+/// Two ports in series read alike: no solve can tell them apart, unless lambda is above zero.
+fn in_series(lambda: f64) -> Problem {
+    let mut p = Problem::zeros(Solver::Normal, 6, 3, setup(0.25, lambda));
+    let flow = [1.0, 2.0, -1.0, 3.0, 0.0, -2.0];
+    let other = [0.0, 1.0, 1.0, -1.0, 2.0, 0.0];
+    for row in 0..6 {
+        p.set(row, 0, flow[row]);
+        p.set(row, 1, other[row]);
+        p.set(row, 2, flow[row]);
+        p.target[row] = 2.0 * flow[row] + other[row];
+    }
+    p
+}
+
+/// A port that reads nothing, under least squares.
+fn dead_port() -> Problem {
+    let mut p = readings(
+        Solver::Qr,
+        12,
+        &[1.0, -2.0, 0.0, 0.5],
+        0.0,
+        setup(0.1, 1e-9),
+    );
+    for row in 0..p.rows {
+        p.set(row, 2, 0.0);
+    }
+    p
+}
+
+/// One reading of one port failed.
+fn nan_reading() -> Problem {
+    let mut p = readings(Solver::Normal, 8, &[1.0, 0.5, -1.5], 0.01, setup(0.1, 0.0));
+    p.set(5, 1, f64::NAN);
+    p
+}
+
+#[cfg(test)]
+mod tests {
+    use super::*;
+
+    #[test]
+    fn each_shows_its_stop() {
+        for example in all() {
+            let (_, said) = answered(&write(&example.problem));
+            let (_, fit) = said.expect("no example is refused");
+            assert_eq!(fit.report.stop, example.stop, "{}", example.name);
+        }
+    }
+}
