@@ -143,6 +143,12 @@ uint64_t dapmotar_strlsq_qr(const double *theta, size_t theta_len, size_t n_rows
 size_t dapmotar_strlsq_workspace(size_t n_rows, size_t n_cols);
 size_t dapmotar_strlsq_qr_workspace(size_t n_rows, size_t n_cols);
 
+/*
+ * The bench program's exchange: writes the answer to the frames in input to the head of answer, and gives its length.
+ * Any bytes are an input; every answer fits.
+ */
+size_t dapmotar_respond(const uint8_t *input, size_t input_len, uint8_t answer[295]);
+
 #ifdef __cplusplus
 }
 #endif

@@ -6,6 +6,7 @@ ghost use mathlib.Core.Path.{_≡_};
 ghost use Rattle.builders.specs.Calls.{JtjCall, JtrCall};
 ghost use Rattle.capi.specs.Numbered.{Numbered};
 ghost use Rattle.float64.specs.Root.{absOf, rootOf};
+ghost use Rattle.frames.specs.Exchange.{Exchange};
 ghost use Rattle.refusal.specs.Answers.{answer-number};
 use refusal::answer_number;
 
@@ -51,4 +52,12 @@ pub extern "C" fn dapmotar_jtr(
     ensures { λ k. ⌜ Numbered answer-number (JtrCall (now (jac .entry)) (now (r .entry)) «n_rows» «n_params» (now (out .entry)) (now (out .exit))) k ⌝ }
 {
     answer_number(builders::jtr(jac, r, n_rows, n_params, out))
+}
+
+// The bench program's exchange: the answer to an input at the head of `answer`, and its length.
+#[no_mangle]
+pub extern "C" fn dapmotar_respond(input: &[u8], answer: &mut [u8; 295]) -> usize
+    ensures { λ r. ⌜ Exchange (now (input .entry)) (now (answer .entry)) (now (answer .exit)) r ⌝ }
+{
+    frames::respond(input, answer)
 }

@@ -6,16 +6,11 @@ use oracle::histogram::Histogram;
 
 unsafe extern "C" {
     /// Writes the bench program's answer to the head of `answer`, and gives its length.
-    fn dapmotar_respond(
-        input: *const u8,
-        input_len: usize,
-        answer: *mut u8,
-        answer_len: usize,
-    ) -> usize;
+    fn dapmotar_respond(input: *const u8, input_len: usize, answer: *mut u8) -> usize;
 }
 
-/// Longer than any answer: 23 bytes and 17 a coefficient.
-const ROOM: usize = 512;
+/// The longest answer: 23 bytes and 17 for each of 16 coefficients.
+const ROOM: usize = 295;
 /// Bytes past the room that no call may touch.
 const GUARD: usize = 16;
 const GUARD_BYTE: u8 = 0xa5;
@@ -23,7 +18,7 @@ const GUARD_BYTE: u8 = 0xa5;
 /// The library's answer, or what is wrong with it.
 fn respond(input: &[u8]) -> Result<Vec<u8>, String> {
     let mut answer = vec![GUARD_BYTE; ROOM + GUARD];
-    let len = unsafe { dapmotar_respond(input.as_ptr(), input.len(), answer.as_mut_ptr(), ROOM) };
+    let len = unsafe { dapmotar_respond(input.as_ptr(), input.len(), answer.as_mut_ptr()) };
     if answer[ROOM..].iter().any(|&b| b != GUARD_BYTE) {
         return Err("written past the room given".into());
     }

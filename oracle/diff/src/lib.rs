@@ -7,7 +7,6 @@ pub use stand_in::fault;
 pub mod call;
 pub mod compare;
 pub mod drop_in;
-#[cfg(feature = "respond")]
 pub mod frames;
 pub mod functions;
 pub mod matrices;

@@ -113,17 +113,10 @@ fn run_drop_in(seed: u64, count: u64) -> ExitCode {
     verdict(differ)
 }
 
-#[cfg(feature = "respond")]
 fn run_frames(seed: u64, count: u64) -> ExitCode {
     let start = Instant::now();
     let (histogram, differ) = diff::frames::many(seed, count, |text| println!("differs: {text}"));
     print!("{histogram}");
     println!("{differ} differ ({:.0} s)", start.elapsed().as_secs_f64());
     verdict(differ)
-}
-
-#[cfg(not(feature = "respond"))]
-fn run_frames(_: u64, _: u64) -> ExitCode {
-    eprintln!("diff: built without the feature `respond`");
-    ExitCode::from(2)
 }

@@ -402,7 +402,6 @@ pub unsafe extern "C" fn dapmotar_respond(
     input: *const u8,
     input_len: usize,
     answer: *mut u8,
-    answer_len: usize,
 ) -> usize {
     let input = if input_len == 0 {
         &[]
@@ -410,7 +409,6 @@ pub unsafe extern "C" fn dapmotar_respond(
         unsafe { slice::from_raw_parts(input, input_len) }
     };
     let text = crate::frames::respond(input);
-    let written = text.len().min(answer_len);
-    unsafe { slice::from_raw_parts_mut(answer, written) }.copy_from_slice(&text[..written]);
-    written
+    unsafe { slice::from_raw_parts_mut(answer, text.len()) }.copy_from_slice(&text);
+    text.len()
 }
