@@ -1,29 +1,21 @@
 -- A matrix and a right-hand side in one slice. Assumes nothing.
 use mathlib.Core.Path.{_≡_, sym, ap, ap₂, _∙_}
-use mathlib.Core.List.{List, [], _++_, append-nil}
+use mathlib.Core.List.{List}
 use Prim.Native.Nat.{ℕ, _+_, _-_, _*_, _≤_}
 use native.Mathlib.Nat.{sub-zero}
 use native.Mathlib.Omega.{arith}
 use lib.Count.{ones}
 use lib.ListN.{length, take, drop, length-append, length-take, length-drop}
-use lib.Seq.{take-at, drop-at, drop-drop, drop-length}
+use lib.Seq.{take-at, drop-at}
 use lib.Ieee.{Float}
 use Rattle.steps.specs.Num.{at, Entry, cell}
 use Rattle.steps.specs.Table.{tab, table, length-table}
 use Rattle.steps.specs.Space.{part, withPart, length-with}
+use Rattle.steps.specs.Glue.{both-parts}
 use Rattle.float64.specs.Root.{rootOf}
 use Rattle.builders.specs.Products.{columns}
 use Rattle.solve.specs.Least.{least}
 use Rattle.rule.specs.Fits.{augmented, padded, by-least}
-
--- two parts that fill a slice are what stands there
-pub both-parts : (k m : ℕ) (s a b : List Float) → length s ≡ k + m → length a ≡ k → withPart k (k + m) b (withPart 0 k a s) ≡ a ++ b
-unfolding withPart
-both-parts k m s a b ls la =
-    rw (sub-zero, take-at a (drop k s) k la, drop-at a (drop k s) k la) (rw (rest, append-nil))
-  where
-    rest : drop (k + m - k) (drop k s) ≡ []
-    rest = drop-drop (k + m - k) k s ∙ (let e : k + (k + m - k) ≡ length s = omega (arith, ls) in rw e (drop-length s))
 
 -- the length of a lent head, and of a lent part behind another
 pub length-head : {A : Type 0} (n : ℕ) (l : List A) → n ≤ length l → length (take (n - 0) l) ≡ n

@@ -6,10 +6,10 @@ use native.Mathlib.Nat.{mul-le-mul, sub-zero}
 use native.Mathlib.Omega.{arith}
 use lib.Count.{ones, ones-le}
 use lib.ListN.{length, take, drop, length-take, length-drop}
-use lib.Seq.{take-append-le, drop-append-le}
 use lib.Ieee.{Float}
 use Rattle.steps.specs.Num.{at, cell}
 use Rattle.steps.specs.Space.{part, withPart, length-with}
+use Rattle.steps.specs.Glue.{read-behind}
 use Rattle.refusal.specs.Answers.{Solution, solved, told}
 use Rattle.refusal.specs.declared.Solved.{Solved}
 use Rattle.refusal.specs.declared.Solved.the-variants.{Done, Refused}
@@ -59,13 +59,7 @@ module _ (rows n w k : ℕ) (ws : List Float) (few : k ≡ ones w) (within : w <
     values-in = omega (arith, same-space, qr-fits)
 
     read : part ((rows + k) * k) ((rows + k) * k + k) (withPart 0 ((rows + k) * k + (rows + k)) x ws) ≡ take k (drop ((rows + k) * k) x)
-    unfolding withPart
-    read =
-        let e = (rows + k) * k in
-        let q : e + k - e ≡ k = omega arith in
-        let h : k ≤ length (drop e x) = simp length-drop (omega (arith, kept, qr-head)) in
-        let g : e ≤ length x = omega (arith, kept, qr-head) in
-        rw (q, drop-append-le e x (drop (e + (rows + k) - 0) ws) g, take-append-le k (drop e x) (drop (e + (rows + k) - 0) ws) h)
+    read = read-behind ((rows + k) * k) (rows + k) k ws x (kept ∙ qr-head) (omega arith)
 
     long : length (take k (drop ((rows + k) * k) x)) ≡ k
     long = simp (length-take, length-drop) (omega (arith, kept, qr-head))

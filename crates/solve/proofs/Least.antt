@@ -1,17 +1,17 @@
 -- Least squares of the two parts of a slice, and the workspace that it stands in. Assumes nothing.
-use mathlib.Core.Path.{_≡_, refl, sym, ap, _∙_}
+use mathlib.Core.Path.{_≡_, refl, sym, ap, ap₂, _∙_}
 use mathlib.Core.Bool.{true, false}
-use mathlib.Core.List.{List, [], _++_, append-nil}
+use mathlib.Core.List.{List, _++_}
 use Prim.Native.Nat.{ℕ, _+_, _-_, _≤_, _<_}
 use native.Mathlib.Nat.{sub-zero}
 use native.Mathlib.Omega.{arith}
-use lib.ListN.{length, take, drop, set, length-drop}
-use lib.Seq.{getD-drop, take-at, drop-at, take-append-le, drop-append-le, take-set-le, drop-set-add, drop-drop, drop-length}
+use lib.ListN.{length, take, drop, set}
+use lib.Seq.{getD-drop, take-at, drop-at, take-set-le, drop-set-add}
 use lib.Ieee.{Float, nan, lt}
 use Rattle.steps.specs.Num.{over, 1e-15, at, cell}
 use Rattle.steps.specs.Loops.{Way, stopped, way-down, way-down-goes, way-down-stops}
 use Rattle.steps.specs.Space.{part, withPart, cleared, cleared-with}
-use Rattle.steps.specs.Glue.{seen, take-front, drop-back}
+use Rattle.steps.specs.Glue.{seen, take-front, drop-back, both-parts, read-behind}
 use Rattle.float64.specs.Root.{absOf}
 use Rattle.decomp.specs.Qr.{after, betas, qt}
 use Rattle.solve.specs.Least.{above, back-column, back, values, least}
@@ -39,13 +39,9 @@ least-is m n k s f b t x len is-f is-b is-t is-x =
 
 -- a and b copied into a slice of their length: the solve of what stands there is theirs
 pub loaded : (m n k : ℕ) (s t u a b : List Float) → length s ≡ k + m → length a ≡ k → length b ≡ m → t ≡ a → u ≡ b → let w = withPart k (k + m) u (withPart 0 k t s) in least m n (take k w) (drop k w) ≡ least m n a b
-unfolding withPart
 loaded m n k s t u a b ls la lb is-t is-u =
-    rw (is-t, is-u, sub-zero, take-at a (drop k s) k la, drop-at a (drop k s) k la)
-    (rw (rest, append-nil, take-at a b k la, drop-at a b k la))
-  where
-    rest : drop (k + m - k) (drop k s) ≡ []
-    rest = drop-drop (k + m - k) k s ∙ (let e : k + (k + m - k) ≡ length s = omega (arith, ls) in rw e (drop-length s))
+    let both : withPart k (k + m) u (withPart 0 k t s) ≡ a ++ b = rw (is-t, is-u) (both-parts k m s a b ls la) in
+    ap₂ (λ (x y : List Float). least m n x y) (ap (take k) both ∙ take-at a b k la) (ap (drop k) both ∙ drop-at a b k la)
 
 -- what the solve left in the first k + m numbers of a workspace: the values are read, and clearing forgets it
 module _ (m n k : ℕ) (w t : List Float) (fit : k + m ≤ length w) (lt : length t ≡ k + m) (tall : n ≤ m) where
@@ -53,12 +49,7 @@ module _ (m n k : ℕ) (w t : List Float) (fit : k + m ≤ length w) (lt : lengt
   whole = lt ∙ sym (sub-zero (k + m))
 
   pub read : part k (k + n) (withPart 0 (k + m) t w) ≡ take n (drop k t)
-  unfolding withPart
-  read =
-      let e : k + n - k ≡ n = omega arith in
-      let h : n ≤ length (drop k t) = simp length-drop (omega arith) in
-      let g : k ≤ length t = omega arith in
-      rw (e, drop-append-le k t (drop (k + m - 0) w) g, take-append-le n (drop k t) (drop (k + m - 0) w) h)
+  read = read-behind k m n w t lt tall
 
   pub clears : (need : ℕ) → k + m ≤ need → need ≤ length w → cleared need (withPart 0 (k + m) t w) ≡ cleared need w
   clears need h h' = cleared-with 0 (k + m) need t w (omega arith) h h' whole

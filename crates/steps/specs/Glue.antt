@@ -1,13 +1,15 @@
 -- One slice that holds a list with another behind it. Assumes nothing.
 use mathlib.Core.Path.{_≡_, refl, sym, ap, _∙_}
-use mathlib.Core.List.{List, _++_}
-use Prim.Native.Nat.{ℕ, _+_, _≤_, _<_}
-use lib.ListN.{length, take, drop, set, getD, List·getD-append, take-append-drop}
-use lib.Seq.{getD-append-add, take-at, drop-at}
+use mathlib.Core.List.{List, [], _++_, append-nil}
+use Prim.Native.Nat.{ℕ, _+_, _-_, _≤_, _<_}
+use native.Mathlib.Nat.{sub-zero}
+use native.Mathlib.Omega.{arith}
+use lib.ListN.{length, take, drop, set, getD, List·getD-append, take-append-drop, length-drop}
+use lib.Seq.{getD-append-add, take-at, drop-at, drop-drop, drop-length, take-append-le, drop-append-le}
 use lib.Ieee.{Float, nan}
 use Rattle.steps.specs.Num.{at}
 use Rattle.steps.specs.Loops.{loop, loop-none, loop-more}
-use Rattle.steps.specs.Space.{set-append-add}
+use Rattle.steps.specs.Space.{part, withPart, set-append-add}
 
 module _ (a b s : List Float) (k : ℕ) (len : length a ≡ k) (is : s ≡ a ++ b) where
   pub at-back : (i : ℕ) → at s (k + i) ≡ at b i
@@ -37,3 +39,21 @@ pub glued-more : (a b s : List Float) (k lo i : ℕ) (f : ℕ → List Float →
 glued-more a b s k lo i f v len h is e =
     set-back a _ s k len is i v
     ∙ ap (λ (z : List Float). a ++ z) (loop-more lo i (λ j l. set l j (f j l)) b h refl (ap (λ (z : Float). set (loop lo i (λ j l. set l j (f j l)) b) i z) e))
+
+-- two parts that fill a slice are what stands there
+pub both-parts : (k m : ℕ) (s a b : List Float) → length s ≡ k + m → length a ≡ k → withPart k (k + m) b (withPart 0 k a s) ≡ a ++ b
+unfolding withPart
+both-parts k m s a b ls la =
+    rw (sub-zero, take-at a (drop k s) k la, drop-at a (drop k s) k la) (rw (rest, append-nil))
+  where
+    rest : drop (k + m - k) (drop k s) ≡ []
+    rest = drop-drop (k + m - k) k s ∙ (let e : k + (k + m - k) ≡ length s = omega (arith, ls) in rw e (drop-length s))
+
+-- the head of a slice was lent as t: what stands in it from k on is read there
+pub read-behind : (k m n : ℕ) (w t : List Float) → length t ≡ k + m → n ≤ m → part k (k + n) (withPart 0 (k + m) t w) ≡ take n (drop k t)
+unfolding withPart
+read-behind k m n w t len tall =
+    let e : k + n - k ≡ n = omega arith in
+    let h : n ≤ length (drop k t) = simp length-drop (omega arith) in
+    let g : k ≤ length t = omega arith in
+    rw (e, drop-append-le k t (drop (k + m - 0) w) g, take-append-le n (drop k t) (drop (k + m - 0) w) h)
