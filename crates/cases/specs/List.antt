@@ -32,4 +32,3 @@ pub record Tallied (t : Tally) (from n : ℕ) : Type 0 where
   pub within : t .end ≤ n
   pub few : t .all + from ≤ t .end
   pub fewer : t .alike ≤ t .all
-
