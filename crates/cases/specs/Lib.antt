@@ -1,3 +1,4 @@
 pub mod Solvers
 pub mod Fits
 pub mod Exchanges
+pub mod List

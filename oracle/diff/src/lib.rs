@@ -10,6 +10,8 @@ pub mod drop_in;
 pub mod frames;
 pub mod functions;
 pub mod matrices;
+#[cfg(feature = "stand-in")]
+pub mod replay;
 pub mod run;
 pub mod sizes;
 pub mod slice;

@@ -11,6 +11,7 @@ const USAGE: &str = "diff SEED COUNT [FUNCTION..]   COUNT calls of each export (
 diff one SEED INDEX FUNCTION   that one call, whole
 diff sqrt COUNT                dapmotar_sqrt against the machine's root on COUNT patterns, and the times
 diff frames SEED COUNT         dapmotar_respond against the reference on COUNT damaged inputs and COUNT/10 made ones
+diff replay SEED               the list of exchanges that the program cases replays, on standard output
 diff drop-in SEED COUNT        the Rust drop-ins against the published functions";
 
 fn main() -> ExitCode {
@@ -22,6 +23,7 @@ fn main() -> ExitCode {
     match (words.as_slice(), numbers.as_slice()) {
         (["sqrt", _], [_, Some(count)]) => run_sqrt(*count),
         (["frames", ..], [_, Some(seed), Some(count)]) => run_frames(*seed, *count),
+        (["replay", _], [_, Some(seed)]) => run_replay(*seed),
         (["drop-in", ..], [_, Some(seed), Some(count)]) => run_drop_in(*seed, *count),
         (["one", _, _, name], [_, Some(seed), Some(index), _]) => run_one(*seed, *index, name),
         ([_, _, names @ ..], [Some(seed), Some(count), ..]) => run_calls(*seed, *count, names),
@@ -119,4 +121,17 @@ fn run_frames(seed: u64, count: u64) -> ExitCode {
     print!("{histogram}");
     println!("{differ} differ ({:.0} s)", start.elapsed().as_secs_f64());
     verdict(differ)
+}
+
+#[cfg(feature = "stand-in")]
+fn run_replay(seed: u64) -> ExitCode {
+    use std::io::Write;
+    let done = std::io::stdout().write_all(&diff::replay::list(seed));
+    verdict(u64::from(done.is_err()))
+}
+
+#[cfg(not(feature = "stand-in"))]
+fn run_replay(_: u64) -> ExitCode {
+    eprintln!("diff: built without the feature `stand-in`");
+    ExitCode::from(2)
 }

@@ -4,7 +4,8 @@ use native.Mathlib.Omega.{arith}
 use Prim.Native.Nat.{_≤_, _-_}
 use mathlib.Core.Path.{_≡_}
 use lib.ListN.{length}
-use Rattle.fitbench.specs.Read.{Came, counts}
+use Rattle.io.proofs.Counting.{counts}
+use Rattle.fitbench.specs.Read.{Came}
 use Rattle.fitbench.proofs.read_whole.Statement.{statement}
 use Rattle.fitbench.proofs.read_whole.Tie as tie
 

@@ -1,1 +1,0 @@
-// The cases of document 01: a proved table, in specs/.

@@ -1,0 +1,14 @@
+// Document 01's cases: the marked ones are a proved table, in specs/; this program runs the others, and replays the list of exchanges on standard input.
+mod numbers;
+mod replay;
+mod say;
+
+// Longer than the list.
+const ROOM: usize = 262144;
+
+fn main() {
+    numbers::run();
+    let mut room = [0u8; ROOM];
+    let n = io::read_full(libc::STDIN_FILENO, &mut room);
+    replay::run(&room[..n]);
+}

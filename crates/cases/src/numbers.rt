@@ -1,0 +1,189 @@
+// The unmarked numbers of document 01, and the two traps that show in a solver and in no fit.
+ghost use Prim.Native.Nat.{_≤_};
+ghost use lib.ListN.{length};
+use super::say;
+use hex::inner::bits;
+use refusal::Answer;
+use rule::Fitted;
+use rule::Setup;
+use rule::Solver;
+
+const NAN: u64 = 0x7ff8_0000_0000_0000;
+
+// The number of a call's refusal, 0 for none.
+fn answer_number(a: Answer) -> u64 {
+    match a {
+        Answer::Done => 0,
+        Answer::Refused(w) => refusal::number(w),
+    }
+}
+
+// The number of a fit's refusal, 0 for none.
+fn fit_number(f: Fitted) -> u64 {
+    match f {
+        Fitted::Fit(_r) => 0,
+        Fitted::Refused(w) => refusal::number(w),
+    }
+}
+
+// Whether a fit reports so.
+fn reports(f: Fitted, stop: u64, refits: usize, kept: u64) -> bool {
+    match f {
+        Fitted::Fit(r) => {
+            let s = r.stop;
+            let k = r.kept;
+            rule::stop_code(s) == stop && r.refits == refits && k.0 == kept
+        }
+        Fitted::Refused(_w) => false,
+    }
+}
+
+// F8: theta 1, target NaN, threshold 0.5.
+fn f8(max_iter: usize, stop: u64, coefficient: u64) -> bool {
+    let theta = [1.0];
+    let target = [0.0 / 0.0];
+    let mut coeffs = [7.0];
+    let mut workspace = [7.0; 4];
+    let setup = Setup {
+        threshold: 0.5,
+        lambda: 0.0,
+        max_iter,
+    };
+    let f = strlsq::strlsq(&theta, 1, 1, &target, setup, &mut coeffs, &mut workspace);
+    reports(f, stop, 0, 0) && bits(coeffs[0]) == coefficient
+}
+
+// The refusal of Cholesky of a 1 by 1 matrix, by its bits.
+fn cholesky_of(a: f64) -> u64 {
+    let mut matrix = [a];
+    let mut b = [1.0];
+    answer_number(solve::solve_spd_cholesky(&mut matrix, &mut b, 1))
+}
+
+// That of LU.
+fn lu_of(a: f64) -> u64 {
+    let mut matrix = [a];
+    let mut b = [1.0];
+    answer_number(solve::solve_lu(&mut matrix, &mut b, 1))
+}
+
+// A fit of one row, its theta, coefficients and workspace at the head of slices that may be longer.
+fn fit_row(
+    solver: Solver,
+    theta: &[f64],
+    n_cols: usize,
+    setup: Setup,
+    coeffs: &mut [f64],
+    workspace: &mut [f64],
+    room: usize,
+) -> Fitted
+    requires { ⌜ («n_cols» ≤ length (now theta)) × («n_cols» ≤ length (now coeffs)) × (room ≤ length (now workspace)) ⌝ }
+{
+    let target = [1.0];
+    match solver {
+        Solver::Normal => strlsq::strlsq(
+            &theta[0..n_cols],
+            1,
+            n_cols,
+            &target,
+            setup,
+            &mut coeffs[0..n_cols],
+            &mut workspace[0..room],
+        ),
+        Solver::Qr => strlsq::strlsq_qr(
+            &theta[0..n_cols],
+            1,
+            n_cols,
+            &target,
+            setup,
+            &mut coeffs[0..n_cols],
+            &mut workspace[0..room],
+        ),
+    }
+}
+
+// A fit of a row of ones, with a workspace of so many numbers.
+fn fit_ones(solver: Solver, n_cols: usize, max_iter: usize, room: usize) -> Fitted
+    requires { ⌜ («n_cols» ≤ 65) × (room ≤ 8973) ⌝ }
+{
+    let theta = [1.0; 65];
+    let mut coeffs = [7.0; 65];
+    let mut workspace = [7.0; 8973];
+    let setup = Setup {
+        threshold: 0.0,
+        lambda: 1.0,
+        max_iter,
+    };
+    fit_row(
+        solver,
+        &theta,
+        n_cols,
+        setup,
+        &mut coeffs,
+        &mut workspace,
+        room,
+    )
+}
+
+// Whether such a fit of 64 columns settles after one refit, with every term kept.
+fn passes(solver: Solver, room: usize) -> bool
+    requires { ⌜ room ≤ 8973 ⌝ }
+{
+    reports(fit_ones(solver, 64, 1000, room), 4, 1, u64::MAX)
+}
+
+// The number with which such a fit is refused.
+fn refused(solver: Solver, n_cols: usize, max_iter: usize, room: usize) -> u64
+    requires { ⌜ («n_cols» ≤ 65) × (room ≤ 8973) ⌝ }
+{
+    fit_number(fit_ones(solver, n_cols, max_iter, room))
+}
+
+// The sizes: what both fits take, and one more. 64 columns of one row need 8,320 numbers, by QR 8,707.
+fn sizes() {
+    let normal = passes(Solver::Normal, 8320);
+    say::case(
+        b"64 columns, max_iter 1,000",
+        normal && passes(Solver::Qr, 8707),
+    );
+    let normal = refused(Solver::Normal, 65, 1000, 8580) == 1;
+    say::case(
+        b"65 columns",
+        normal && refused(Solver::Qr, 65, 1000, 8973) == 1,
+    );
+    let normal = refused(Solver::Normal, 64, 1001, 8320) == 3;
+    say::case(
+        b"max_iter 1,001",
+        normal && refused(Solver::Qr, 64, 1001, 8707) == 3,
+    );
+    let normal = refused(Solver::Normal, 64, 1000, 8319) == 7;
+    say::case(
+        b"a workspace one short",
+        normal && refused(Solver::Qr, 64, 1000, 8706) == 7,
+    );
+}
+
+// `qr` of two rows (1, -0.0): a sum that starts at +0.0 leaves -0.0 above the diagonal.
+fn qr_sums() -> bool {
+    let a = [1.0, -0.0, 1.0, -0.0];
+    let mut data = [7.0; 4];
+    let mut betas = [7.0; 2];
+    let mut workspace = [7.0; 2];
+    let answer = decomp::qr(&a, 2, 2, &mut data, &mut betas, &mut workspace);
+    answer_number(answer) == 0 && bits(data[1]) == 0
+}
+
+pub fn run() {
+    say::case(b"F8, max_iter 0", f8(0, 5, NAN));
+    say::case(b"F8, max_iter 1", f8(1, 2, 0));
+    say::case(b"C1", cholesky_of(1e-14) == 8);
+    say::case(
+        b"C1, the next f64 up",
+        cholesky_of(1.0000000000000002e-14) == 0,
+    );
+    say::case(b"C2", lu_of(1e-15) == 0);
+    say::case(b"C2, the next f64 down", lu_of(9.999999999999999e-16) == 9);
+    sizes();
+    say::case(b"Cholesky passes a NaN", cholesky_of(0.0 / 0.0) == 0);
+    say::case(b"sums of qr start at -0.0", qr_sums());
+}
