@@ -2,7 +2,7 @@
 use mathlib.Core.Path.{_≡_, refl, sym, ap, ap₂, _∙_, subst}
 use mathlib.Core.Bool.{Bool, cond}
 use mathlib.Core.List.{List}
-use Prim.Native.Nat.{ℕ, zero, suc, _+_, _-_, _*_, _≤_, _<_}
+use Prim.Native.Nat.{ℕ, _+_, _-_, _≤_, _<_}
 use native.Mathlib.Omega.{arith}
 use lib.Count.{ones}
 use lib.Dec.{eqb, ltb}
@@ -11,7 +11,7 @@ use lib.Seq.{length-take-le}
 use lib.Ieee.{Float, lt}
 use Rattle.steps.specs.Num.{+zero, 1e-15, at, Entry, cell}
 use Rattle.steps.specs.Cond.{either}
-use Rattle.steps.specs.Loops.{turns, loop, down-from, Way, going, stopped, left, onward, way, way-down}
+use Rattle.steps.specs.Loops.{Way, going, stopped, left, loop-keeps, down-keeps, way-keeps, way-down-keeps}
 use Rattle.steps.specs.Table.{tab, table, length-tab, tab-cong, table-cong}
 use Rattle.steps.specs.Space.{swapped}
 use Rattle.float64.specs.Root.{rootOf, absOf}
@@ -28,35 +28,6 @@ use Rattle.solve.specs.Least.{above, back-column, back, values, least}
 use Rattle.rule.specs.declared.Solver.{Solver}
 use Rattle.rule.specs.declared.Solver.the-variants.{Normal, Qr}
 use Rattle.rule.specs.Fits.{by-sums, by-normal, augmented, padded, by-least, solves}
-
--- ---- what each turn keeps, a loop keeps
-
-module _ {S : Type 0} (P : S → Type 0) where
-  loop-keeps : (lo hi : ℕ) (f : ℕ → S → S) (s : S) → ((i : ℕ) (t : S) → P t → P (f i t)) → P s → P (loop lo hi f s)
-  unfolding loop turns
-  loop-keeps lo hi f s k p = go (hi - lo)
-    where
-      go : (n : ℕ) → P (turns lo n f s)
-      go zero = p
-      go (suc n) = k (lo + n) (turns lo n f s) (go n)
-
-  down-keeps : (n : ℕ) (f : ℕ → S → S) (s : S) → ((i : ℕ) (t : S) → P t → P (f i t)) → P s → P (down-from n f s)
-  unfolding down-from
-  down-keeps zero f s k p = p
-  down-keeps (suc n) f s k p = down-keeps n f (f n s) k (k n s p)
-
-module _ {S : Type 0} (P : S → Type 0) (f : ℕ → S → Way S) (k : (i : ℕ) (t : S) → P t → P (left (f i t))) where
-  onward-keeps : (i : ℕ) (w : Way S) → P (left w) → P (left (onward f i w))
-  onward-keeps i (going s) p = k i s p
-  onward-keeps i (stopped c s) p = p
-
-  way-keeps : (lo hi : ℕ) (s : S) → P s → P (left (way f lo hi s))
-  unfolding way
-  way-keeps lo hi s p = loop-keeps (λ w. P (left w)) lo hi (onward f) (going s) onward-keeps p
-
-  way-down-keeps : (n : ℕ) (s : S) → P s → P (left (way-down f n s))
-  unfolding way-down
-  way-down-keeps n s p = down-keeps (λ w. P (left w)) n (onward f) (going s) onward-keeps p
 
 -- ---- the right-hand side keeps its length
 
@@ -98,7 +69,7 @@ module _ (k : ℕ) where
     where
       go : (w : Way (List Float × List Float)) → Long (left w .1) → Long (left (or-lu n a b w))
       go (going s) p = p
-      go (stopped c s) p = lu-long n (lu-factor n a b) (way-keeps Second (lu-column n) (column-long n) 0 n (a, b) e)
+      go (stopped c s) p = lu-long n (lu-factor n a b) (way-keeps (lu-column n) Second (column-long n) 0 n (a, b) e)
 
   qt-long : (m n : ℕ) (a bs b : List Float) → Long b → Long (qt m n a bs n b)
   unfolding qt turn
@@ -112,7 +83,7 @@ module _ (k : ℕ) where
 
   back-long : (n : ℕ) (a x : List Float) → Long x → Long (left (back n a x))
   unfolding back
-  back-long n a x e = way-down-keeps Long (back-column n a) (back-column-long n a) n x e
+  back-long n a x e = way-down-keeps (back-column n a) Long (back-column-long n a) n x e
 
 -- ---- one value a column
 

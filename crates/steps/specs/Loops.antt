@@ -32,16 +32,14 @@ module _ {ℓ} {S : Type ℓ} where
   pub loop-end : (lo i hi : ℕ) (f : ℕ → S → S) (s : S) {t : S} → t ≡ loop lo i f s → i ≤ hi → hi ≤ i → t ≡ loop lo hi f s
   loop-end lo i hi f s p h k = p ∙ ap (λ (x : ℕ). loop lo x f s) (le-antisymm h k)
 
-  -- what each turn keeps holds at the end
-  pub loop-ind : (P : ℕ → S → Type 0) (f : ℕ → S → S) (lo hi : ℕ) (s : S) → lo ≤ hi → P lo s → ((i : ℕ) (t : S) → lo ≤ i → i < hi → P i t → P (i + 1) (f i t)) → P hi (loop lo hi f s)
+  -- what each turn keeps, the loop keeps
+  pub loop-keeps : (P : S → Type 0) (lo hi : ℕ) (f : ℕ → S → S) (s : S) → ((i : ℕ) (t : S) → P t → P (f i t)) → P s → P (loop lo hi f s)
   unfolding loop turns
-  loop-ind P f lo hi s h p k = subst (λ (n : ℕ). P n (turns lo (hi - lo) f s)) (add-sub-of-le h) (go (hi - lo) (omega arith))
+  loop-keeps P lo hi f s k p = go (hi - lo)
     where
-      go : (n : ℕ) → lo + n ≤ hi → P (lo + n) (turns lo n f s)
-      go zero b = rw add-zero p
-      go (suc n) b =
-          let e : lo + suc n ≡ lo + n + 1 = omega arith in
-          rw e (k (lo + n) (turns lo n f s) (omega arith) (omega arith) (go n (omega arith)))
+      go : (n : ℕ) → P (turns lo n f s)
+      go zero = p
+      go (suc n) = k (lo + n) (turns lo n f s) (go n)
 
   -- loops whose turns are alike give the same
   pub loop-cong : (lo hi : ℕ) (f g : ℕ → S → S) (s : S) → ((i : ℕ) (t : S) → lo ≤ i → i < hi → f i t ≡ g i t) → loop lo hi f s ≡ loop lo hi g s
@@ -82,6 +80,11 @@ module _ {ℓ} {S : Type ℓ} where
   unfolding down-from
   down-fixed f zero s h = refl
   down-fixed f (suc i) s h = ap (down-from i f) (h i) ∙ down-fixed f i s h
+
+  pub down-keeps : (P : S → Type 0) (n : ℕ) (f : ℕ → S → S) (s : S) → ((i : ℕ) (t : S) → P t → P (f i t)) → P s → P (down-from n f s)
+  unfolding down-from
+  down-keeps P zero f s k p = p
+  down-keeps P (suc n) f s k p = down-keeps P n f (f n s) k (k n s p)
 
 -- The state of a loop that can be left early: still going, or stopped at a number.
 pub data Way (S : Type 0) : Type 0 where
@@ -131,3 +134,17 @@ module _ {S : Type 0} (f : ℕ → S → Way S) where
   pub way-down-stops : (i c : ℕ) (s t : S) → 0 < i → f (i - 1) s ≡ stopped c t → way-down i s ≡ stopped c t
   unfolding way-down
   way-down-stops i c s t h e = down-more (onward f) i (going s) h ∙ rw e (down-fixed (onward f) (i - 1) (stopped c t) (λ k. refl))
+
+  -- what each turn keeps, both keep, stopped or not
+  module _ (P : S → Type 0) (k : (i : ℕ) (t : S) → P t → P (left (f i t))) where
+    onward-keeps : (i : ℕ) (w : Way S) → P (left w) → P (left (onward f i w))
+    onward-keeps i (going s) p = k i s p
+    onward-keeps i (stopped c s) p = p
+
+    pub way-keeps : (lo hi : ℕ) (s : S) → P s → P (left (way lo hi s))
+    unfolding way
+    way-keeps lo hi s p = loop-keeps (λ w. P (left w)) lo hi (onward f) (going s) onward-keeps p
+
+    pub way-down-keeps : (n : ℕ) (s : S) → P s → P (left (way-down n s))
+    unfolding way-down
+    way-down-keeps n s p = down-keeps (λ w. P (left w)) n (onward f) (going s) onward-keeps p

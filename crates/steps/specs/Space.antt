@@ -5,8 +5,8 @@ use Prim.Native.Nat.{ℕ, zero, suc, _+_, _-_, _*_, _≤_, _<_}
 use native.Mathlib.Nat.{not-suc-le-zero, le-of-suc-le-suc, zero-add, suc-add, add-zero}
 use native.Mathlib.Numerals.{add-one}
 use native.Mathlib.Omega.{arith}
-use lib.ListN.{length, set, length-set, take, drop, replicate, length-append, length-take, length-drop, getD, List·getD-append, take-append-drop}
-use lib.Seq.{take-at, drop-at, take-append-le, drop-append-le, drop-drop, drop-append-add, set-append-left, getD-append-add, getD-take, getD-drop, drop-length}
+use lib.ListN.{length, set, take, drop, replicate, length-append, length-take, length-drop, getD, List·getD-append}
+use lib.Seq.{take-at, drop-at, drop-drop, drop-append-add, getD-append-add, getD-take, getD-drop, drop-length}
 use lib.Ieee.{Float, nan}
 use Rattle.steps.specs.Num.{+zero, at}
 use Rattle.steps.specs.Table.{tab, is-tab}
@@ -63,28 +63,12 @@ module _ (a e : ℕ) (t s : List Float) (h : a ≤ e) (h' : e ≤ length s) (len
       ∙ drop-append-add (take a s) _ _ ∙ drop-append-add t _ _
       ∙ drop-drop (k - e) (e - a) (drop a s) ∙ drop-drop (e - a + (k - e)) a s ∙ ap (λ (n : ℕ). drop n s) e₂
 
-  -- putting it twice is putting the second
-  pub with-with : (u : List Float) → length u ≡ e - a → withPart a e u (withPart a e t s) ≡ withPart a e u s
-  unfolding withPart
-  with-with u hu = rw (take-at (take a s) _ a before-len, drop-at (take a s) _ a before-len, drop-at t _ (e - a) len)
-
 -- a store in what follows xs
 pub set-append-add : (xs ys : List Float) (k : ℕ) (v : Float) → set (xs ++ ys) (length xs + k) v ≡ xs ++ set ys k v
 set-append-add [] ys k v = rw zero-add
 set-append-add (x ∷ xs) ys k v = rw suc-add (ap (λ (l : List Float). x ∷ l) (set-append-add xs ys k v))
 
--- a store, and a read, in a part
-pub set-with : (a e : ℕ) (t s : List Float) (k : ℕ) (v : Float) → a ≤ length s → k < length t → set (withPart a e t s) (a + k) v ≡ withPart a e (set t k v) s
-unfolding withPart
-set-with a e t s k v h hk =
-    let len : length (take a s) ≡ a = simp length-take (omega arith) in
-    subst (λ (n : ℕ). set (take a s ++ (t ++ drop (e - a) (drop a s))) (n + k) v ≡ take a s ++ (set t k v ++ drop (e - a) (drop a s))) len
-    (set-append-add (take a s) _ k v ∙ ap (λ (l : List Float). take a s ++ l) (set-append-left t _ k v hk))
-
-pub two-with : (a e : ℕ) (t s : List Float) (j k : ℕ) (v : Float) → a ≤ length s → j < length t → k < length t → set (set (withPart a e t s) (a + j) v) (a + k) v ≡ withPart a e (set (set t j v) k v) s
-two-with a e t s j k v h hj hk =
-    ap (λ (l : List Float). set l (a + k) v) (set-with a e t s j v h hj) ∙ set-with a e (set t j v) s k v h (simp length-set hk)
-
+-- a read in a part
 pub get-with : (a e : ℕ) (t s : List Float) (k : ℕ) (d : Float) → a ≤ length s → k < length t → getD (withPart a e t s) (a + k) d ≡ getD t k d
 unfolding withPart
 get-with a e t s k d h hk =
@@ -96,11 +80,6 @@ get-with a e t s k d h hk =
 pub front-with : (a e : ℕ) (t s : List Float) → a ≤ length s → take a (withPart a e t s) ≡ take a s
 unfolding withPart
 front-with a e t s h = take-at (take a s) _ a (simp length-take (omega arith))
-
--- a part as it is
-pub with-self : (a e : ℕ) (s : List Float) → s ≡ withPart a e (part a e s) s
-unfolding withPart
-with-self a e s = sym (rw (take-append-drop, take-append-drop))
 
 -- clearing looks only past the cleared numbers
 pub cleared-same : (k : ℕ) (s t : List Float) → drop k s ≡ drop k t → cleared k s ≡ cleared k t
