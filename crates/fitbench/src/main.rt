@@ -4,7 +4,7 @@ ghost use Rattle.fitbench.specs.Read.{Came};
 use libc::STDIN_FILENO;
 use libc::STDOUT_FILENO;
 
-// One byte more than the longest valid input has (45 for the header, 128 rows of 17 numbers and a newline): a longer one fills the room, and no valid input has that length.
+// One byte more than the longest valid input has: 45 for the header, 128 rows of 17 numbers and a newline. What a longer input has beyond it changes no answer (frames' `cut-alike`).
 const ROOM: usize = 34990;
 
 // What reading gives: so many bytes, or a read that failed.

@@ -9,3 +9,4 @@ pub mod Within
 pub mod ReadBack
 pub mod Unique
 pub mod Examples
+pub mod Cut
