@@ -1,0 +1,62 @@
+// How much stack each call takes at full size: a thread on a painted stack, and the lowest byte that was touched.
+//   cc -O1 -Iinclude -o target/stack bench/stack.c target/staticlib/libcapi.a -lpthread && target/stack examples/eight-ports.frames
+#include "dapmotar.h"
+
+#include <pthread.h>
+#include <stdio.h>
+#include <stdlib.h>
+#include <string.h>
+
+enum { STACK = 1 << 20, ROWS = 4096, COLS = 64, PAINT = 0xa5 };
+
+static const char *const names[] = {"nothing", "jtj", "jtr", "cholesky", "lu", "normal", "qr", "least", "strlsq", "strlsq_qr", "respond", "sqrt"};
+static unsigned char *stack, input[40000], answer[295];
+static size_t which, input_len;
+static double *theta, *target, *square, *values, *space;
+
+static void *call(void *unused) {
+    uint64_t report[3];
+    switch (which) {
+    case 1: dapmotar_jtj(theta, ROWS * COLS, ROWS, COLS, 1e-6, square, COLS * COLS); break;
+    case 2: dapmotar_jtr(theta, ROWS * COLS, target, ROWS, ROWS, COLS, values, COLS); break;
+    case 3: dapmotar_solve_spd_cholesky(square, COLS * COLS, values, COLS, COLS); break;
+    case 4: dapmotar_solve_lu(square, COLS * COLS, values, COLS, COLS); break;
+    case 5: dapmotar_solve_normal_equations(square, COLS * COLS, values, COLS, COLS, space, COLS * COLS); break;
+    case 6: dapmotar_qr(theta, ROWS * COLS, ROWS, COLS, space, ROWS * COLS, values, COLS, space + ROWS * COLS, ROWS); break;
+    case 7: dapmotar_solve_least_squares(theta, ROWS * COLS, target, ROWS, ROWS, COLS, values, COLS, space, ROWS * COLS + 2 * ROWS + 2 * COLS); break;
+    case 8: dapmotar_strlsq(theta, ROWS * COLS, ROWS, COLS, target, ROWS, 0.25, 1e-6, 10, values, COLS, space, dapmotar_strlsq_workspace(ROWS, COLS), report); break;
+    case 9: dapmotar_strlsq_qr(theta, ROWS * COLS, ROWS, COLS, target, ROWS, 0.25, 1e-6, 10, values, COLS, space, dapmotar_strlsq_qr_workspace(ROWS, COLS), report); break;
+    case 10: dapmotar_respond(input, input_len, answer); break;
+    case 11: dapmotar_sqrt(2.0); break;
+    }
+    return unused;
+}
+
+static long used(void) {
+    pthread_attr_t attributes;
+    pthread_t thread;
+    long untouched = 0;
+    memset(stack, PAINT, STACK);
+    pthread_attr_init(&attributes);
+    pthread_attr_setstack(&attributes, stack, STACK);
+    pthread_create(&thread, &attributes, call, NULL);
+    pthread_join(thread, NULL);
+    while (untouched < STACK && stack[untouched] == PAINT) untouched++;
+    return STACK - untouched;
+}
+
+int main(int argc, char **argv) {
+    FILE *file = argc > 1 ? fopen(argv[1], "r") : NULL;
+    input_len = file ? fread(input, 1, sizeof input, file) : 0;
+    theta = malloc(ROWS * COLS * sizeof(double));
+    target = malloc(ROWS * sizeof(double));
+    square = malloc(COLS * COLS * sizeof(double));
+    values = malloc(COLS * sizeof(double));
+    space = malloc(2 * (ROWS + COLS) * (COLS + 4) * sizeof(double));
+    for (size_t i = 0; i < ROWS * COLS; i++) theta[i] = (rand() % 2000 - 1000) / 500.0;
+    for (size_t i = 0; i < ROWS; i++) target[i] = 2 * theta[i * COLS] + theta[i * COLS + 5];
+    if (posix_memalign((void **)&stack, 4096, STACK) != 0) return 2;
+    long bare = used();
+    for (which = 1; which < sizeof names / sizeof names[0]; which++) printf("%-10s %6ld bytes\n", names[which], used() - bare);
+    return 0;
+}
