@@ -1,4 +1,4 @@
-// The unmarked numbers of document 01, and the two traps that show in a solver and in no fit.
+// The unmarked numbers of document 01, and the two traps that none of the replayed exchanges tells.
 ghost use Prim.Native.Nat.{_≤_};
 ghost use lib.ListN.{length};
 use super::say;
