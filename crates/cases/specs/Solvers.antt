@@ -13,8 +13,8 @@ use Rattle.steps.specs.Space as P
 use Rattle.float64.specs.Root as R
 use Rattle.refusal.specs.Answers.{solved, refused}
 use Rattle.decomp.specs.Qr as Q
-use Rattle.solve.specs.Cholesky as C
-use Rattle.solve.specs.Lu as U
+use Rattle.cholesky.specs.Cholesky as C
+use Rattle.lu.specs.Lu as U
 use Rattle.solve.specs.Normal as E
 use Rattle.solve.specs.Least as M
 

@@ -14,7 +14,7 @@ use Rattle.refusal.specs.declared.Solved.the-variants.{Done, Refused}
 use Rattle.solve.specs.Normal.{normal}
 use Rattle.rule.specs.Rule.{scatter}
 use Rattle.refit.specs.Parts.{gave, placed}
-use Rattle.refit.proofs.Spread.{scatter-head}
+use Rattle.refit.proofs.Head.{scatter-head}
 
 -- the square matrix of a support is at most that of all columns
 pub few-pairs : (n w k : ℕ) → w < 2 ^ n → k ≡ ones w → k * k ≤ n * n

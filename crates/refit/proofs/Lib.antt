@@ -1,5 +1,5 @@
 -- Laws that the proofs share.
-pub mod Spread
+pub mod Head
 pub mod Ends
 pub mod Augment
 pub mod Joined

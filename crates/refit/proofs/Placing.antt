@@ -20,7 +20,7 @@ use Rattle.rule.specs.Fits.{by-least, solves}
 use Rattle.rule.specs.Calls.{fit-need}
 use Rattle.rule.specs.declared.Solver.the-variants.{Qr}
 use Rattle.refit.specs.Parts.{gave, placed, over-support}
-use Rattle.refit.proofs.Spread.{scatter-head}
+use Rattle.refit.proofs.Head.{scatter-head}
 use Rattle.refit.proofs.Joined.{length-head}
 
 -- the solve of the support's columns, counted

@@ -21,8 +21,8 @@ use Rattle.refusal.specs.Answers.{Solution, solved, refused, solution}
 use Rattle.builders.specs.Products.{gram, moment, ridge, damped, jtj-matrix, jtr-column, columns}
 use Rattle.builders.specs.ProductLaws.{gram-cong, moment-cong, columns-full}
 use Rattle.decomp.specs.Qr.{turn, qt, after, betas}
-use Rattle.solve.specs.Cholesky.{chol-forward, chol-back, chol-end, chol-factor, cholesky}
-use Rattle.solve.specs.Lu.{pivot-row, swap-rows, lu-swap, lu-eliminate, lu-pivoted, lu-column, lu-factor, lu-forward, lu-back, lu-end, lu}
+use Rattle.cholesky.specs.Cholesky.{chol-forward, chol-back, chol-end, chol-factor, cholesky}
+use Rattle.lu.specs.Lu.{pivot-row, swap-rows, lu-swap, lu-eliminate, lu-pivoted, lu-column, lu-factor, lu-forward, lu-back, lu-end, lu}
 use Rattle.solve.specs.Normal.{right, or-lu, normal}
 use Rattle.solve.specs.Least.{above, back-column, back, values, least}
 use Rattle.rule.specs.declared.Solver.{Solver}

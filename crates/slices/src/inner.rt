@@ -2,7 +2,8 @@
 ghost use mathlib.Core.Path.{_≡_};
 ghost use Prim.Native.Nat.{ℕ, _+_, _*_, _≤_, _<_};
 ghost use lib.ListN.{length, set};
-ghost use Rattle.steps.specs.Num.{cell};
+ghost use Rattle.steps.specs.Num.{times, at, cell};
+ghost use Rattle.steps.specs.Sums.{less-sum};
 ghost use Rattle.steps.specs.Space.{cleared, part, withPart, swapped};
 
 // Row i, column j of a matrix of n columns.
@@ -60,4 +61,16 @@ pub fn swap(a: &mut [f64], x: usize, y: usize)
     let t = a[x];
     a[x] = a[y];
     a[y] = t;
+}
+
+// b(i) less the products of row i of an n by n matrix with b, in the columns lo..hi.
+pub fn row_sum(l: &[f64], b: &[f64], n: usize, i: usize, lo: usize, hi: usize) -> f64
+    requires { ⌜ (length (now l) ≡ n * n) × (length (now b) ≡ n) × (i < n) × (lo ≤ hi) × (hi ≤ n) ⌝ }
+    ensures { λ r. ⌜ r ≡ less-sum (at (now (b .entry)) i) lo hi (λ k. times (cell n (now (l .entry)) i k) (at (now (b .entry)) k)) ⌝ }
+{
+    let mut s = b[i];
+    for k in lo..hi {
+        s = s - cell(l, n, i, k) * b[k];
+    }
+    s
 }

@@ -14,8 +14,8 @@ use Rattle.refusal.specs.declared.Refusal.{Refusal}
 use Rattle.refusal.specs.declared.Refusal.the-variants.{ManyColumns, MatrixLength, TargetLength, WorkspaceShort, NotSpd, SmallPivot}
 use Rattle.refusal.specs.declared.Solved.{Solved}
 use Rattle.refusal.specs.declared.Solved.the-variants as S
-use Rattle.solve.specs.Cholesky.{cholesky}
-use Rattle.solve.specs.Lu.{lu}
+use Rattle.cholesky.specs.Cholesky.{cholesky}
+use Rattle.lu.specs.Lu.{lu}
 use Rattle.solve.specs.Normal.{normal}
 use Rattle.solve.specs.Calls.{square-sizes, normal-sizes, CholeskyCall, LuCall, NormalCall}
 

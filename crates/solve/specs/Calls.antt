@@ -12,8 +12,8 @@ use Rattle.refusal.specs.Answers.{refuse-if, if-done, and-then, ended, Solution
 use Rattle.refusal.specs.declared.Answer.{Answer}
 use Rattle.refusal.specs.declared.Answer.the-variants.{Done, Refused}
 use Rattle.refusal.specs.declared.Refusal.the-variants.{ManyColumns, ManyRows, MatrixLength, TargetLength, OutputLength, FewRows, WorkspaceShort, NotSpd, SmallPivot}
-use Rattle.solve.specs.Cholesky.{cholesky}
-use Rattle.solve.specs.Lu.{lu}
+use Rattle.cholesky.specs.Cholesky.{cholesky}
+use Rattle.lu.specs.Lu.{lu}
 use Rattle.solve.specs.Normal.{normal}
 use Rattle.solve.specs.Least.{least}
 

@@ -1,6 +1,4 @@
 -- The solvers. Assumes nothing.
-pub mod Cholesky
-pub mod Lu
 pub mod Normal
 pub mod Least
 pub mod Calls

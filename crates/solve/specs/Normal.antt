@@ -3,8 +3,8 @@ use Prim.Native.Nat.{ℕ}
 use mathlib.Core.List.{List}
 use lib.Ieee.{Float}
 use Rattle.steps.specs.Loops.{Way, going, stopped}
-use Rattle.solve.specs.Cholesky.{cholesky}
-use Rattle.solve.specs.Lu.{lu}
+use Rattle.cholesky.specs.Cholesky.{cholesky}
+use Rattle.lu.specs.Lu.{lu}
 
 -- the right-hand side alone
 abbrev pub right : Way (List Float × List Float) → Way (List Float)

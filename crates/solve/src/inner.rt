@@ -1,5 +1,3 @@
 // The solvers on lent slices whose lengths the caller tested: nothing here is a public call.
-pub mod cholesky;
 pub mod least;
-pub mod lu;
 pub mod normal;

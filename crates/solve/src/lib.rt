@@ -2,9 +2,9 @@
 pub mod inner;
 
 ghost use Rattle.solve.specs.Calls.{CholeskyCall, LeastCall, LuCall, NormalCall};
-use inner::cholesky::cholesky;
-use inner::lu::lu;
+use cholesky::inner::cholesky;
 use inner::normal::normal_equations;
+use lu::inner::lu;
 use refusal::Answer;
 use refusal::Refusal;
 use refusal::Solved;

@@ -87,7 +87,8 @@ same-length-3 c = search needs
 returns-8 : tie.Need-returns-8
 unfolding qr-sizes
 returns-8 c =
-    let made = c .before .before .before .before .before .before .before .before in
+    let at-clear = c .before .before in
+    let made = at-clear .before .before .before .before .before .before in
     let copied = made .before .before .before .before .before in
     let seventh = copied .before .before in
     let fifth = seventh .before .before in
@@ -97,7 +98,7 @@ returns-8 c =
       answer = simp (le-ltb _ _ (third .before .before .if1 .left), le-ltb _ _ (third .before .if2 .left), eq-eqb _ _ (third .if3 .left), eq-eqb _ _ (fifth .before .if4 .left), eq-eqb _ _ (fifth .if5 .left), le-ltb _ _ (seventh .before .if6 .left), le-ltb _ _ (seventh .if7 .left));
       factor = made .factor .ensures .0 ∙ ap (λ (z : List Float). after (args .m) (args .n) z (args .n)) (copied .copy .ensures);
       scales = made .factor .ensures .1 ∙ ap (betas (args .m) (args .n)) (copied .copy .ensures);
-      space = c .before .before .clear .ensures;
+      space = at-clear .clear .ensures;
     }
 
 pub qr-spec : {M : Type 1} → statement M

@@ -157,9 +157,11 @@ same-length c = search needs
 returns-8 : tie.Need-returns-8
 unfolding withPart least-need
 returns-8 c =
-    let solved = c .before .before .before .before .before .before .before .before in
-    let told-it = c .before .before .before .before .enum-told2 .given in
-    stops (accepted (passed solved)) (cleared-space solved (c .before .before .clear .ensures)) (told-it .0 .0) (values-at solved) (answered solved (told-it .1))
+    let at-clear = c .before .before in
+    let at-enum-told2 = at-clear .before .before in
+    let solved = at-enum-told2 .before .before .before .before in
+    let told-it = at-enum-told2 .enum-told2 .given in
+    stops (accepted (passed solved)) (cleared-space solved (at-clear .clear .ensures)) (told-it .0 .0) (values-at solved) (answered solved (told-it .1))
 
 add-last : tie.Need-add-last
 add-last c = search needs
@@ -191,10 +193,11 @@ same-length-3 c = search needs
 returns-9 : tie.Need-returns-9
 unfolding withPart least-need
 returns-9 c =
-    let copied = c .before .before .before .before .before .before in
+    let at-clear2 = c .before .before in
+    let copied = at-clear2 .before .before .before .before in
     let solved = copied .before .before .before .before .before .before .before .before in
     let taken = copied .copy .ensures ∙ read (m solved) (n solved) (m solved * n solved) (space solved) (head solved) (fit solved) (long-head solved) (passed solved .before .if6 .left) in
-    solves (accepted (passed solved)) (cleared-space solved (c .before .before .clear2 .ensures)) (values-at solved) (answered solved (copied .before .before .before .before .enum-told .given .1)) taken
+    solves (accepted (passed solved)) (cleared-space solved (at-clear2 .clear2 .ensures)) (values-at solved) (answered solved (copied .before .before .before .before .enum-told .given .1)) taken
 
 pub solve-least-squares-spec : {M : Type 1} → statement M
 solve-least-squares-spec =

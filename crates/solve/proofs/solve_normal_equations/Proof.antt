@@ -18,13 +18,14 @@ solved : (c : tie.After-slice-known5) → let solve = c .before .before .before 
     NormalCall (now (start .args .a)) (now (start .args .b)) (start .args .n) (solve .normal-equations .last .1 .0) (now (start .args .workspace)) (c .before .before .clear .last .0) (answered SmallPivot (solve .normal-equations .result))
 unfolding withPart
 solved c =
-    let solve = c .before .before .before .before .before .before .before .before in
+    let at-clear = c .before .before in
+    let solve = at-clear .before .before .before .before .before .before in
     let tests = solve .before .before .before in
     let start = tests .before .before .before .before .before .before .before in
     let cells = start .args .n * start .args .n in
     let fits = normal-fits _ _ _ _ (tests .before .before .before .if1 .left) (tests .before .before .if2 .left) (tests .before .if3 .left) (tests .if4 .left) in
     normal-accepted _ _ _ (solve .normal-equations .result) _ _ _ fits (solve .normal-equations .ensures)
-    (c .before .before .clear .ensures ∙ cleared-with 0 cells cells (solve .normal-equations .last .1 .1 .1 .0) (now (start .args .workspace)) (omega arith) (omega arith) (tests .if4 .left)
+    (at-clear .clear .ensures ∙ cleared-with 0 cells cells (solve .normal-equations .last .1 .1 .1 .0) (now (start .args .workspace)) (omega arith) (omega arith) (tests .if4 .left)
     (solve .normal-equations .kept .1 .1 .1 .0 ∙ simp length-take (omega (arith, tests .if4 .left))))
 
 returns : tie.Need-returns

@@ -34,12 +34,16 @@ loop-less c = omega arith
 
 loop-again : tie.Need-loop-again Inv-loop μ-loop
 loop-again c =
-    let start = c .before .before .before .before .before .before .before .before .before in
-    let turn = c .before .before .before .before .before .before .before .loop in
-    let test = c .before .before .before .before .before .before .loop-test .taken in
+    let at-put = c .before .before in
+    let at-cell = at-put .before .before in
+    let at-loop-test = at-cell .before .before in
+    let at-loop = at-loop-test .before in
+    let start = at-loop .before .before in
+    let turn = at-loop .loop in
+    let test = at-loop-test .loop-test .taken in
     let k = start .args .k in (
       omega arith,
-      rw (c .before .before .put .ensures, c .before .before .before .before .cell .ensures)
+      rw (at-put .put .ensures, at-cell .cell .ensures)
           (wrote-turn (λ p. p * k + p) (λ p x. plus x (start .args .lambda)) 0 (turn .p) (now (start .args .out)) (turn .out) (omega arith) (omega (arith, digits-lt test test)) (diagonal-apart k (turn .p) test) (turn .inv .1)),
     )
 

@@ -24,8 +24,9 @@ slice-aggregate-target-sums c = search needs
 
 target-sums-requires : tie.Need-target-sums-requires
 target-sums-requires c κs =
-    let clear = c .before .before .before .before .clear in
-    let counted = c .before .before .before .before .before .before in
+    let at-clear = c .before .before .before .before in
+    let counted = at-clear .before .before in
+    let clear = at-clear .clear in
     let list = counted .before .before .list-terms in
     let start = counted .before .before .before .before .before .before .before in
     let sizes = start .pre .0 in (
@@ -40,8 +41,9 @@ same-length c = search needs
 
 returns : tie.Need-returns
 returns c =
-    let sums = c .before .before .target-sums in
-    let cleared = c .before .before .before .before .before .before .before in
+    let at-target-sums = c .before .before in
+    let cleared = at-target-sums .before .before .before .before .before in
+    let sums = at-target-sums .target-sums in
     let counted = cleared .before .before in
     let list = counted .before .before .list-terms in
     let start = counted .before .before .before .before .before .before .before in

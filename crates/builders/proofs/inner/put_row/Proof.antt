@@ -37,10 +37,13 @@ loop-less c = omega arith
 
 loop-again : tie.Need-loop-again Inv-loop μ-loop
 loop-again c =
-    let test = c .before .before .before .before .before .loop-test .taken in
-    let turn = c .before .before .before .before .before .before .loop in
-    let start = c .before .before .before .before .before .before .before .before .before in
-    (omega arith, omega arith, rw (c .before .before .put-both .ensures) (row-more _ _ _ (turn .q) _ (turn .out) (start .pre .2) (turn .inv .0) test (turn .inv .2)))
+    let at-put-both = c .before .before in
+    let at-loop-test = at-put-both .before .before .before in
+    let at-loop = at-loop-test .before in
+    let start = at-loop .before .before .before in
+    let test = at-loop-test .loop-test .taken in
+    let turn = at-loop .loop in
+    (omega arith, omega arith, rw (at-put-both .put-both .ensures) (row-more _ _ _ (turn .q) _ (turn .out) (start .pre .2) (turn .inv .0) test (turn .inv .2)))
 
 same-length : tie.Need-same-length Inv-loop μ-loop
 same-length c = c .before .loop .inv .2 .long

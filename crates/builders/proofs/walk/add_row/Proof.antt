@@ -43,8 +43,10 @@ loop-less c = omega arith
 
 loop-again : tie.Need-loop-again Inv-loop μ-loop
 loop-again c =
-    let turn = c .before .before .before .loop in
-    let a = c .before .before .before .before .before .before .before .args in (
+    let at-loop = c .before .before .before in
+    let start = at-loop .before .before .before .before in
+    let turn = at-loop .loop in
+    let a = start .args in (
       omega arith,
       omega arith,
       rw (c .at-place .ensures)

@@ -39,11 +39,15 @@ loop-less c = omega (arith, c .before .before .before .before .before .loop-test
 
 loop-again : tie.Need-loop-again Inv-loop μ-loop
 loop-again c =
-    let row = c .before .before .add-row in
-    let turn = c .before .before .before .before .before .before .loop in (
-      omega (arith, c .before .before .before .before .before .loop-test .taken),
+    let at-add-row = c .before .before in
+    let found = at-add-row .before .before in
+    let at-loop-test = found .before in
+    let at-loop = at-loop-test .before in
+    let row = at-add-row .add-row in
+    let turn = at-loop .loop in (
+      omega (arith, at-loop-test .loop-test .taken),
       row .kept .1 .1 .1 .1 .1 .1 .1 .1 .0 ∙ turn .inv .1,
-      pairs-more _ _ _ _ _ _ _ (row .ensures) _ (c .before .before .before .before .at-place .ensures) (turn .inv .2),
+      pairs-more _ _ _ _ _ _ _ (row .ensures) _ (found .at-place .ensures) (turn .inv .2),
     )
 
 same-length : tie.Need-same-length Inv-loop μ-loop

@@ -40,9 +40,12 @@ loop-less c = omega (arith, c .before .before .before .before .before .loop-test
 
 loop-again : tie.Need-loop-again Inv-loop μ-loop
 loop-again c =
-    let row = c .before .before .add-row in
-    let turn = c .before .before .before .before .before .before .loop in (
-      omega (arith, c .before .before .before .before .before .loop-test .taken),
+    let at-add-row = c .before .before in
+    let at-loop-test = at-add-row .before .before .before in
+    let at-loop = at-loop-test .before in
+    let row = at-add-row .add-row in
+    let turn = at-loop .loop in (
+      omega (arith, at-loop-test .loop-test .taken),
       row .kept .1 .1 .1 .1 .1 .1 .1 .1 .0 ∙ turn .inv .1,
       targets-more _ _ _ _ _ _ _ (row .ensures) _ refl (turn .inv .2),
     )
@@ -52,8 +55,10 @@ same-length c = c .before .loop .inv .1
 
 returns : tie.Need-returns Inv-loop μ-loop
 returns c =
-    let end = c .before .loop in
-    let all : end .i ≡ c .before .before .before .before .before .before .args .n-rows = omega arith in
+    let at-loop = c .before in
+    let start = at-loop .before .before .before .before .before in
+    let end = at-loop .loop in
+    let all : end .i ≡ start .args .n-rows = omega arith in
     rw all at (end .inv .2)
 
 pub target-sums-spec : {M : Type 1} → statement M

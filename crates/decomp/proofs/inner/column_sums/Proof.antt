@@ -30,13 +30,15 @@ led-at-requires c κs =
 
 mul-add-row : tie.Need-mul-add-row Inv-loop μ-loop
 mul-add-row c =
-    let start = c .before .before .before .before .before .before in
-    omega (arith, start .pre .0, row-fits _ (start .args .n) _ (c .before .before .loop-test .taken))
+    let at-loop-test = c .before .before in
+    let start = at-loop-test .before .before .before .before in
+    omega (arith, start .pre .0, row-fits _ (start .args .n) _ (at-loop-test .loop-test .taken))
 
 add-row-requires : tie.Need-add-row-requires Inv-loop μ-loop
 add-row-requires c κs =
-    let start = c .before .before .before .before .before .before in
-    omega (arith, start .pre .0, row-fits _ (start .args .n) _ (c .before .before .loop-test .taken))
+    let at-loop-test = c .before .before in
+    let start = at-loop-test .before .before .before .before in
+    omega (arith, start .pre .0, row-fits _ (start .args .n) _ (at-loop-test .loop-test .taken))
 
 add-i : tie.Need-add-i Inv-loop μ-loop
 add-i c =

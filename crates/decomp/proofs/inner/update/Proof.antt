@@ -24,8 +24,10 @@ abbrev μ-loop : tie.MeasureT-loop
 -- row i ends within the matrix
 inside : (c : tie.In-loop Inv-loop μ-loop) → let args = c .before .before .before .before .before .before .before .before .args in c .before .loop .i * args .n + args .n ≤ length (c .before .loop .a)
 inside c =
-    let start = c .before .before .before .before .before .before .before .before in
-    omega (arith, row-fits _ (start .args .n) _ (c .loop-test .taken), start .pre .0 .size, c .before .before .before .before .less-row .kept .0, c .before .loop .inv .2)
+    let at-loop = c .before in
+    let at-less-row = at-loop .before .before .before in
+    let start = at-less-row .before .before .before .before in
+    omega (arith, row-fits _ (start .args .n) _ (c .loop-test .taken), start .pre .0 .size, at-less-row .less-row .kept .0, at-loop .loop .inv .2)
 
 mul-less-row : tie.Need-mul-less-row Inv-loop μ-loop
 mul-less-row c = let start = c .before .before .before in omega (arith, start .pre .0, row-fits _ (start .args .n) _ (start .pre .0 .tall))
@@ -58,8 +60,9 @@ less-row-requires-2 c κs =
 
 put-requires : tie.Need-put-requires Inv-loop μ-loop
 put-requires c κs =
-    let test = c .before .before .before .before .before .before .before in
-    omega (arith, inside test, test .before .before .before .before .before .before .before .before .pre .0, c .before .before .before .less-row2 .kept .0)
+    let at-less-row2 = c .before .before .before in
+    let test = at-less-row2 .before .before .before .before in
+    omega (arith, inside test, test .before .before .before .before .before .before .before .before .pre .0, at-less-row2 .less-row2 .kept .0)
 
 add-i-2 : tie.Need-add-i-2 Inv-loop μ-loop
 add-i-2 c =
@@ -71,17 +74,20 @@ loop-less c = omega (arith, c .before .before .before .before .before .before .b
 
 loop-again : tie.Need-loop-again Inv-loop μ-loop
 loop-again c =
-    let test = c .before .before .before .before .before .before .before .before .before .before in
+    let at-put = c .before .before in
+    let at-less-row2 = at-put .before .before .before .before in
+    let at-cell = at-less-row2 .before .before in
+    let test = at-cell .before .before in
     let turn = test .before .loop in
     let start = test .before .before .before .before .before .before .before .before in
     let args = start .args in
-    let row = c .before .before .before .before .before .before .less-row2 in
-    let stored = c .before .before .put in (
+    let row = at-less-row2 .less-row2 in
+    let stored = at-put .put in (
       omega (arith, turn),
       omega (arith, test),
       stored .kept .0 ∙ row .kept .0 ∙ turn .inv .2,
       λ l size rows. turned-row (args .m) (args .n) (args .j) (args .x) (now (args .t)) l size (start .pre .0 .wide) (turn .i) _ (turn .a) (row .last .0) (omega (arith, turn)) (test .loop-test .taken) (turn .inv .3 l size rows)
-          (c .before .before .before .before .before .before .before .before .cell .ensures) (row .ensures) _ (stored .ensures),
+          (at-cell .cell .ensures) (row .ensures) _ (stored .ensures),
     )
 
 same-length : tie.Need-same-length Inv-loop μ-loop
@@ -89,13 +95,15 @@ same-length c = c .before .loop .inv .2 ∙ c .before .before .before .before .l
 
 returns : tie.Need-returns Inv-loop μ-loop
 returns c =
-    let start = c .before .before .before .before .before .before .before .before in
+    let at-loop = c .before in
+    let at-less-row = at-loop .before .before .before in
+    let start = at-less-row .before .before .before .before in
     let a = now (start .args .a) in
     let t = now (start .args .t) in
     let shape = start .pre .0 in
-    let end = c .before .loop in
+    let end = at-loop .loop in
     let all : end .i ≡ start .args .m = omega arith in
-    let first = turned-lead (start .args .m) (start .args .n) (start .args .j) (start .args .x) t a (shape .size) (shape .wide) _ (c .before .before .before .before .less-row .ensures) in
+    let first = turned-lead (start .args .m) (start .args .n) (start .args .j) (start .args .x) t a (shape .size) (shape .wide) _ (at-less-row .less-row .ensures) in
     turned-end (start .args .m) (start .args .n) (start .args .j) (start .args .x) t a (shape .size) (shape .wide) _ (rw all at (end .inv .3 a (shape .size) first))
 
 pub update-spec : {M : Type 1} → statement M

@@ -35,8 +35,10 @@ loop-less c = omega arith
 
 loop-again : tie.Need-loop-again Inv-loop μ-loop
 loop-again c =
-    let at-loop = c .before .before .before .before .before .before .before in
-    lines-next _ _ _ (omega arith) (omega arith) (omega arith) (c .before .before .before .before .bits .ensures) (at-loop .loop .inv) (c .before .before .write-line .ensures)
+    let at-write-line = c .before .before in
+    let at-bits = at-write-line .before .before in
+    let at-loop = at-bits .before .before .before in
+    lines-next _ _ _ (omega arith) (omega arith) (omega arith) (at-bits .bits .ensures) (at-loop .loop .inv) (at-write-line .write-line .ensures)
 
 same-length : tie.Need-same-length Inv-loop μ-loop
 same-length c = c .before .loop .inv .long

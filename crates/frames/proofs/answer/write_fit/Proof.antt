@@ -11,16 +11,19 @@ write-status-requires c κs = omega arith
 
 write-coefficients-requires : tie.Need-write-coefficients-requires
 write-coefficients-requires c κs =
-    let report = c .before .before .before .before .before .before .before .args .report in
-    omega (arith, c .before .before .before .write-status .ensures .place, length-report (report .stop) (report .refits) (report .kept .0))
+    let at-write-status = c .before .before .before in
+    let start = at-write-status .before .before .before .before in
+    let report = start .args .report in
+    omega (arith, at-write-status .write-status .ensures .place, length-report (report .stop) (report .refits) (report .kept .0))
 
 same-length : tie.Need-same-length
 same-length c = search needs
 
 returns : tie.Need-returns
 returns c =
-    let after-status = c .before .before .before .before .before .before in
-    written-then (omega arith) (after-status .write-status .ensures) (c .before .before .write-coefficients .ensures)
+    let at-write-coefficients = c .before .before in
+    let after-status = at-write-coefficients .before .before .before .before in
+    written-then (omega arith) (after-status .write-status .ensures) (at-write-coefficients .write-coefficients .ensures)
 
 pub write-fit-spec : {M : Type 1} → statement M
 write-fit-spec = tie.close (tie.spec write-status-requires write-coefficients-requires same-length returns)

@@ -29,10 +29,11 @@ same-length c = search needs
 
 returns : tie.Need-returns
 returns c =
-    let after-refits = c .before .before .before .before .before .before in
+    let at-write-line = c .before .before in
+    let after-refits = at-write-line .before .before .before .before in
     let after-stop = after-refits .before .before .before .before .before in
     report-written _ _ _ (after-stop .before .before .stop-code .ensures) (after-refits .before .before .wide .ensures)
-    (after-stop .write-hex .ensures) (after-refits .write-hex2 .ensures) (c .before .before .write-line .ensures)
+    (after-stop .write-hex .ensures) (after-refits .write-hex2 .ensures) (at-write-line .write-line .ensures)
 
 pub write-status-spec : {M : Type 1} → statement M
 write-status-spec = tie.close (tie.spec stop-code-requires write-hex-requires wide-requires write-hex-requires-2 write-line-requires same-length returns)

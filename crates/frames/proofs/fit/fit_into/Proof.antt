@@ -30,10 +30,11 @@ same-length-3 c = search needs
 
 returns : tie.Need-returns
 returns c =
-    let told = c .before .before .before .before .before .before in
+    let at-write-fit = c .before .before in
+    let told = at-write-fit .before .before .before .before in
     let after-fit = told .before .before .before .before .before .before in
     let start = after-fit .before .before .before .before .before .before .before .before .before in
-    fit-written (start .args .h) _ _ _ _ _ _ _ (start .pre .0) (start .pre .1) (start .pre .2) (after-fit .fit .ensures) _ (told .report .given .1) (c .before .before .write-fit .ensures)
+    fit-written (start .args .h) _ _ _ _ _ _ _ (start .pre .0) (start .pre .1) (start .pre .2) (after-fit .fit .ensures) _ (told .report .given .1) (at-write-fit .write-fit .ensures)
 
 same-length-4 : tie.Need-same-length-4
 same-length-4 c = search needs

@@ -56,10 +56,11 @@ same-length c = search needs
 
 returns : tie.Need-returns
 returns c =
-    let after-target = c .before .before .before .before .before .before .before .before .before in
+    let at-fit-read = c .before .before in
+    let after-target = at-fit-read .before .before .before .before .before .before .before in
     let after-theta = after-target .before .before .before in
     let start = after-theta .before .before .before .before in
-    rw (read-fit _ _ _ _ (start .pre .0) (after-theta .read-theta .ensures) (after-target .read-target .ensures)) at (c .before .before .fit-read .ensures)
+    rw (read-fit _ _ _ _ (start .pre .0) (after-theta .read-theta .ensures) (after-target .read-target .ensures)) at (at-fit-read .fit-read .ensures)
 
 pub fit-rows-spec : {M : Type 1} → statement M
 fit-rows-spec = tie.close (tie.spec mul-n slice-aggregate-read-theta read-theta-requires slice-aggregate-read-target read-target-requires sub-fit-read part-fit-read-start part-fit-read-end sub-fit-read-2 part-fit-read-start-2 part-fit-read-end-2 fit-read-requires same-length returns)

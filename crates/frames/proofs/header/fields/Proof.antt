@@ -33,9 +33,10 @@ float-requires-2 c κs = part-digits 28 16 (c .before .before .before .before .b
 returns : tie.Need-returns
 unfolding header
 returns c =
-    let after-rows = c .before .before .before .before .before .before in
-    let after-cols = c .before .before .before .before in
-    let after-limit = c .before .before in
+    let at-float = c .before in
+    let after-limit = at-float .before in
+    let after-cols = after-limit .before .before in
+    let after-rows = after-cols .before .before in
     rw (
       after-rows .size .ensures,
       after-rows .before .number .ensures,
@@ -43,7 +44,7 @@ returns c =
       after-cols .before .number2 .ensures,
       after-limit .size3 .ensures,
       after-limit .before .number3 .ensures,
-      c .before .float .ensures,
+      at-float .float .ensures,
       c .float2 .ensures,
     )
 

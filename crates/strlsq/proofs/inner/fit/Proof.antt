@@ -20,45 +20,67 @@ returns c =
 
 returns-2 : tie.Need-returns-2
 returns-2 c =
-    let start = c .before .before .before .before .before .before in
+    let at-if1 = c .before in
+    let start = at-if1 .before .before .before .before .before in
     let a = start .args in
-    fit-refused (a .solver) (now (a .theta)) (now (a .target)) (a .n-rows) (a .n-cols) (a .setup) (now (a .coeffs)) (now (a .workspace)) _ (many-rows _ _ _ _ _ _ _ _ (c .before .if1 .left) (c .if2 .taken))
+    fit-refused (a .solver) (now (a .theta)) (now (a .target)) (a .n-rows) (a .n-cols) (a .setup) (now (a .coeffs)) (now (a .workspace)) _ (many-rows _ _ _ _ _ _ _ _ (at-if1 .if1 .left) (c .if2 .taken))
 
 returns-3 : tie.Need-returns-3
 returns-3 c =
-    let start = c .before .before .before .before .before .before .before .before in
+    let at-if2 = c .before .before in
+    let at-if1 = at-if2 .before in
+    let start = at-if1 .before .before .before .before .before in
     let a = start .args in
-    fit-refused (a .solver) (now (a .theta)) (now (a .target)) (a .n-rows) (a .n-cols) (a .setup) (now (a .coeffs)) (now (a .workspace)) _ (many-rounds _ _ _ _ _ _ _ _ (c .before .before .before .if1 .left) (c .before .before .if2 .left) (c .if3 .taken))
+    fit-refused (a .solver) (now (a .theta)) (now (a .target)) (a .n-rows) (a .n-cols) (a .setup) (now (a .coeffs)) (now (a .workspace)) _ (many-rounds _ _ _ _ _ _ _ _ (at-if1 .if1 .left) (at-if2 .if2 .left) (c .if3 .taken))
 
 mul-if4 : tie.Need-mul-if4
 mul-if4 c = omega (arith, mul-le-mul (c .before .before .if2 .left) (c .before .before .before .if1 .left))
 
 returns-4 : tie.Need-returns-4
 returns-4 c =
-    let start = c .before .before .before .before .before .before .before .before .before in
+    let at-if3 = c .before in
+    let at-if2 = at-if3 .before .before in
+    let at-if1 = at-if2 .before in
+    let start = at-if1 .before .before .before .before .before in
     let a = start .args in
-    fit-refused (a .solver) (now (a .theta)) (now (a .target)) (a .n-rows) (a .n-cols) (a .setup) (now (a .coeffs)) (now (a .workspace)) _ (matrix-length _ _ _ _ _ _ _ _ (c .before .before .before .before .if1 .left) (c .before .before .before .if2 .left) (c .before .if3 .left) (c .if4 .taken))
+    fit-refused (a .solver) (now (a .theta)) (now (a .target)) (a .n-rows) (a .n-cols) (a .setup) (now (a .coeffs)) (now (a .workspace)) _ (matrix-length _ _ _ _ _ _ _ _ (at-if1 .if1 .left) (at-if2 .if2 .left) (at-if3 .if3 .left) (c .if4 .taken))
 
 returns-5 : tie.Need-returns-5
 returns-5 c =
-    let start = c .before .before .before .before .before .before .before .before .before .before in
+    let at-if4 = c .before in
+    let at-if3 = at-if4 .before in
+    let at-if2 = at-if3 .before .before in
+    let at-if1 = at-if2 .before in
+    let start = at-if1 .before .before .before .before .before in
     let a = start .args in
-    fit-refused (a .solver) (now (a .theta)) (now (a .target)) (a .n-rows) (a .n-cols) (a .setup) (now (a .coeffs)) (now (a .workspace)) _ (target-length _ _ _ _ _ _ _ _ (c .before .before .before .before .before .if1 .left) (c .before .before .before .before .if2 .left) (c .before .before .if3 .left) (c .before .if4 .left) (c .if5 .taken))
+    fit-refused (a .solver) (now (a .theta)) (now (a .target)) (a .n-rows) (a .n-cols) (a .setup) (now (a .coeffs)) (now (a .workspace)) _ (target-length _ _ _ _ _ _ _ _ (at-if1 .if1 .left) (at-if2 .if2 .left) (at-if3 .if3 .left) (at-if4 .if4 .left) (c .if5 .taken))
 
 returns-6 : tie.Need-returns-6
 returns-6 c =
-    let start = c .before .before .before .before .before .before .before .before .before .before .before in
+    let at-if5 = c .before in
+    let at-if4 = at-if5 .before in
+    let at-if3 = at-if4 .before in
+    let at-if2 = at-if3 .before .before in
+    let at-if1 = at-if2 .before in
+    let start = at-if1 .before .before .before .before .before in
     let a = start .args in
-    fit-refused (a .solver) (now (a .theta)) (now (a .target)) (a .n-rows) (a .n-cols) (a .setup) (now (a .coeffs)) (now (a .workspace)) _ (output-length _ _ _ _ _ _ _ _ (c .before .before .before .before .before .before .if1 .left) (c .before .before .before .before .before .if2 .left) (c .before .before .before .if3 .left) (c .before .before .if4 .left) (c .before .if5 .left) (c .if6 .taken))
+    fit-refused (a .solver) (now (a .theta)) (now (a .target)) (a .n-rows) (a .n-cols) (a .setup) (now (a .coeffs)) (now (a .workspace)) _ (output-length _ _ _ _ _ _ _ _ (at-if1 .if1 .left) (at-if2 .if2 .left) (at-if3 .if3 .left) (at-if4 .if4 .left) (at-if5 .if5 .left) (c .if6 .taken))
 
 needed-requires : tie.Need-needed-requires
 needed-requires c κs = search needs
 
 returns-7 : tie.Need-returns-7
 returns-7 c =
-    let start = c .before .before .before .before .before .before .before .before .before .before .before .before .before in
+    let at-needed = c .before in
+    let at-if6 = at-needed .before in
+    let at-if5 = at-if6 .before in
+    let at-if4 = at-if5 .before in
+    let at-if3 = at-if4 .before in
+    let at-if2 = at-if3 .before .before in
+    let at-if1 = at-if2 .before in
+    let start = at-if1 .before .before .before .before .before in
     let a = start .args in
-    fit-refused (a .solver) (now (a .theta)) (now (a .target)) (a .n-rows) (a .n-cols) (a .setup) (now (a .coeffs)) (now (a .workspace)) _ (workspace-short _ _ _ _ _ _ _ _ (c .before .before .before .before .before .before .before .before .if1 .left) (c .before .before .before .before .before .before .before .if2 .left) (c .before .before .before .before .before .if3 .left) (c .before .before .before .before .if4 .left) (c .before .before .before .if5 .left) (c .before .before .if6 .left) (rw (c .before .needed .ensures) at (c .if7 .taken)))
+    fit-refused (a .solver) (now (a .theta)) (now (a .target)) (a .n-rows) (a .n-cols) (a .setup) (now (a .coeffs)) (now (a .workspace)) _ (workspace-short _ _ _ _ _ _ _ _ (at-if1 .if1 .left) (at-if2 .if2 .left) (at-if3 .if3 .left) (at-if4 .if4 .left) (at-if5 .if5 .left) (at-if6 .if6 .left) (rw (at-needed .needed .ensures) at (c .if7 .taken)))
 
 sub-fitted : tie.Need-sub-fitted
 sub-fitted c = search needs
@@ -71,7 +93,15 @@ part-fitted-end c = search needs
 
 fitted-requires : tie.Need-fitted-requires
 fitted-requires c κs =
-    (record { cols = c .before .before .before .before .before .before .before .before .before .before .if1 .left; few = c .before .before .before .before .before .before .before .before .before .if2 .left; matrix = c .before .before .before .before .before .before .if4 .left; right = c .before .before .before .before .before .if5 .left }, c .before .before .before .before .if6 .left, simp length-take (omega (arith, c .before .before .if7 .left, c .before .before .before .needed .ensures)), c .before .before .before .before .before .before .before .if3 .left)
+    let at-if7 = c .before .before in
+    let at-needed = at-if7 .before in
+    let at-if6 = at-needed .before in
+    let at-if5 = at-if6 .before in
+    let at-if4 = at-if5 .before in
+    let at-if3 = at-if4 .before in
+    let at-if2 = at-if3 .before .before in
+    let at-if1 = at-if2 .before in
+    (record { cols = at-if1 .if1 .left; few = at-if2 .if2 .left; matrix = at-if4 .if4 .left; right = at-if5 .if5 .left }, at-if6 .if6 .left, simp length-take (omega (arith, at-if7 .if7 .left, at-needed .needed .ensures)), at-if3 .if3 .left)
 
 clear-requires : tie.Need-clear-requires
 clear-requires c κs = search needs
@@ -85,16 +115,26 @@ same-length-2 c = search needs
 returns-8 : tie.Need-returns-8
 unfolding withPart
 returns-8 c =
-    let start = c .before .before .before .before .before .before .before .before .before .before .before .before .before .before .before .before .before .before .before .before .before .before .before .before in
+    let at-clear = c .before .before in
+    let at-fitted = at-clear .before .before .before .before .before .before in
+    let at-if7 = at-fitted .before .before .before in
+    let at-needed = at-if7 .before in
+    let at-if6 = at-needed .before in
+    let at-if5 = at-if6 .before in
+    let at-if4 = at-if5 .before in
+    let at-if3 = at-if4 .before in
+    let at-if2 = at-if3 .before .before in
+    let at-if1 = at-if2 .before in
+    let start = at-if1 .before .before .before .before .before in
     let a = start .args in
-    let fitted = c .before .before .before .before .before .before .before .before .fitted in
-    let need = c .before .before .before .before .before .before .before .before .before .before .before .before .needed .result in
-    let room : need ≤ length (now (a .workspace)) = c .before .before .before .before .before .before .before .before .before .before .before .if7 .left in
+    let fitted = at-fitted .fitted in
+    let need = at-needed .needed .result in
+    let room : need ≤ length (now (a .workspace)) = at-if7 .if7 .left in
     let long : length (fitted .last .1 .1 .1 .1 .1 .1 .1 .0) ≡ need - 0 = fitted .kept .1 .1 .1 .1 .1 .1 .1 .0 ∙ length-take-le (need - 0) (now (a .workspace)) (omega (arith, room)) in
     fit-accepted (a .solver) (now (a .theta)) (now (a .target)) (a .n-rows) (a .n-cols) (a .setup) (now (a .coeffs)) _ (now (a .workspace)) _ (fitted .result)
-    (accepted _ _ _ _ _ _ _ _ (c .before .before .before .before .before .before .before .before .before .before .before .before .before .before .before .before .before .before .before .if1 .left) (c .before .before .before .before .before .before .before .before .before .before .before .before .before .before .before .before .before .before .if2 .left) (c .before .before .before .before .before .before .before .before .before .before .before .before .before .before .before .before .if3 .left) (c .before .before .before .before .before .before .before .before .before .before .before .before .before .before .before .if4 .left) (c .before .before .before .before .before .before .before .before .before .before .before .before .before .before .if5 .left) (c .before .before .before .before .before .before .before .before .before .before .before .before .before .if6 .left) (rw (c .before .before .before .before .before .before .before .before .before .before .before .before .needed .ensures) at room))
+    (accepted _ _ _ _ _ _ _ _ (at-if1 .if1 .left) (at-if2 .if2 .left) (at-if3 .if3 .left) (at-if4 .if4 .left) (at-if5 .if5 .left) (at-if6 .if6 .left) (rw (at-needed .needed .ensures) at room))
     (fitted .ensures)
-    (rw (← c .before .before .before .before .before .before .before .before .before .before .before .before .needed .ensures) (c .before .before .clear .ensures ∙ cleared-with 0 need need (fitted .last .1 .1 .1 .1 .1 .1 .1 .0) (now (a .workspace)) (omega arith) (omega arith) room long))
+    (rw (← at-needed .needed .ensures) (at-clear .clear .ensures ∙ cleared-with 0 need need (fitted .last .1 .1 .1 .1 .1 .1 .1 .0) (now (a .workspace)) (omega arith) (omega arith) room long))
 
 pub fit-spec : {M : Type 1} → statement M
 fit-spec =

@@ -31,7 +31,10 @@ loop-holds c =
     (refl, omega arith, refl, refl, refl, record { refitted = []; state = start .pre .4; last-is = c .empty .ensures; count-is = refl })
 
 support-of-requires : tie.Need-support-of-requires Inv-loop μ-loop
-support-of-requires c κs = let start = c .before .before .before .before .before .before .before .before in let sized = start .pre .0 in omega (arith, c .before .before .loop .inv .3, start .pre .1, sized .cols)
+support-of-requires c κs =
+    let at-loop = c .before .before in
+    let start = at-loop .before .before .before .before .before .before in
+    let sized = start .pre .0 in omega (arith, at-loop .loop .inv .3, start .pre .1, sized .cols)
 
 empty-requires-2 : tie.Need-empty-requires-2 Inv-loop μ-loop
 empty-requires-2 c κs = search needs
@@ -40,22 +43,35 @@ same-requires : tie.Need-same-requires Inv-loop μ-loop
 same-requires c κs = search needs
 
 clear-requires : tie.Need-clear-requires Inv-loop μ-loop
-clear-requires c κs = let start = c .before .before .before .before .before .before .before .before .before .before .before .before .before in let sized = start .pre .0 in omega (arith, c .before .before .before .before .before .before .before .loop .inv .3, start .pre .1)
+clear-requires c κs =
+    let at-loop = c .before .before .before .before .before .before .before in
+    let start = at-loop .before .before .before .before .before .before in
+    let sized = start .pre .0 in omega (arith, at-loop .loop .inv .3, start .pre .1)
 
 same-length : tie.Need-same-length Inv-loop μ-loop
-same-length c = c .before .before .clear .kept .0 ∙ c .before .before .before .before .before .before .before .before .before .before .loop .inv .3
+same-length c =
+    let at-clear = c .before .before in
+    let at-loop = at-clear .before .before .before .before .before .before .before .before in
+    at-clear .clear .kept .0 ∙ at-loop .loop .inv .3
 
 same-length-2 : tie.Need-same-length-2 Inv-loop μ-loop
 same-length-2 c = c .before .before .before .before .before .before .before .before .before .before .loop .inv .4
 
 returns : tie.Need-returns Inv-loop μ-loop
 returns c =
-    let start = c .before .before .before .before .before .before .before .before .before .before .before .before .before .before .before .before in
-    let turn = c .before .before .before .before .before .before .before .before .before .before .loop in
+    let at-clear = c .before .before in
+    let at-if1 = at-clear .before .before in
+    let at-same = at-if1 .before in
+    let at-empty2 = at-same .before in
+    let at-support-of = at-empty2 .before in
+    let at-loop-test = at-support-of .before .before in
+    let at-loop = at-loop-test .before in
+    let start = at-loop .before .before .before .before .before .before in
+    let turn = at-loop .loop in
     let a = start .args in
-    let l : turn .round < a .setup .«max_iter» = omega (arith, c .before .before .before .before .before .before .before .before .before .loop-test .taken, turn .inv .0) in
+    let l : turn .round < a .setup .«max_iter» = omega (arith, at-loop-test .loop-test .taken, turn .inv .0) in
     turn-empty (a .solver) (a .setup) (now (a .theta)) (now (a .target)) (a .n-rows) (a .n-cols) (turn .inv .5) l (turn .inv .3 ∙ start .pre .1)
-    _ (c .before .before .before .before .before .before .before .support-of .ensures) (tested-yes _ _ 0 (c .before .before .before .before .before .same .ensures) (c .before .before .before .before .before .before .empty2 .ensures) (c .before .before .before .before .if1 .taken)) (c .before .before .clear .ensures)
+    _ (at-support-of .support-of .ensures) (tested-yes _ _ 0 (at-same .same .ensures) (at-empty2 .empty2 .ensures) (at-if1 .if1 .taken)) (at-clear .clear .ensures)
 
 same-requires-2 : tie.Need-same-requires-2 Inv-loop μ-loop
 same-requires-2 c κs = search needs
@@ -68,23 +84,36 @@ same-length-4 c = c .before .before .before .before .before .before .before .bef
 
 returns-2 : tie.Need-returns-2 Inv-loop μ-loop
 returns-2 c =
-    let start = c .before .before .before .before .before .before .before .before .before .before .before .before .before .before in
-    let turn = c .before .before .before .before .before .before .before .before .loop in
+    let at-same2 = c .before in
+    let at-if1 = at-same2 .before in
+    let at-same = at-if1 .before in
+    let at-empty2 = at-same .before in
+    let at-support-of = at-empty2 .before in
+    let at-loop-test = at-support-of .before .before in
+    let at-loop = at-loop-test .before in
+    let start = at-loop .before .before .before .before .before .before in
+    let turn = at-loop .loop in
     let a = start .args in
-    let l : turn .round < a .setup .«max_iter» = omega (arith, c .before .before .before .before .before .before .before .loop-test .taken, turn .inv .0) in
+    let l : turn .round < a .setup .«max_iter» = omega (arith, at-loop-test .loop-test .taken, turn .inv .0) in
     turn-settled (a .solver) (a .setup) (now (a .theta)) (now (a .target)) (a .n-rows) (a .n-cols) (turn .inv .5) l (turn .inv .3 ∙ start .pre .1)
-    _ (c .before .before .before .before .before .support-of .ensures) (tested-no _ _ 0 (c .before .before .before .same .ensures) (c .before .before .before .before .empty2 .ensures) (c .before .before .if1 .left)) (tested-yes _ _ _ (c .before .same2 .ensures) refl (c .if2 .taken))
+    _ (at-support-of .support-of .ensures) (tested-no _ _ 0 (at-same .same .ensures) (at-empty2 .empty2 .ensures) (at-if1 .if1 .left)) (tested-yes _ _ _ (at-same2 .same2 .ensures) refl (c .if2 .taken))
 
 add-refits : tie.Need-add-refits Inv-loop μ-loop
-add-refits c = let turn = c .before .before .before .before .before .before .before .before .loop in omega (arith, turn .inv .2, turn .inv .0, c .before .before .before .before .before .before .before .loop-test .taken, c .before .before .before .before .before .before .before .before .before .before .before .before .before .before .pre .3)
+add-refits c =
+    let at-loop-test = c .before .before .before .before .before .before .before in
+    let at-loop = at-loop-test .before in
+    let start = at-loop .before .before .before .before .before .before in
+    let turn = at-loop .loop in omega (arith, turn .inv .2, turn .inv .0, at-loop-test .loop-test .taken, start .pre .3)
 
 solve-terms-requires : tie.Need-solve-terms-requires Inv-loop μ-loop
 solve-terms-requires c κs =
-    let start = c .before .before .before .before .before .before .before .before .before .before .before .before .before .before .before .before in
-    let turn = c .before .before .before .before .before .before .before .before .before .before .loop in
+    let at-support-of = c .before .before .before .before .before .before .before in
+    let at-loop = at-support-of .before .before .before in
+    let start = at-loop .before .before .before .before .before .before in
+    let turn = at-loop .loop in
     let sized = start .pre .0 in
     let long = turn .inv .3 ∙ start .pre .1 in
-    (sized, long, support-fits _ _ _ (turn .coeffs) (c .before .before .before .before .before .before .before .support-of .ensures) long, turn .inv .4 ∙ start .pre .2)
+    (sized, long, support-fits _ _ _ (turn .coeffs) (at-support-of .support-of .ensures) long, turn .inv .4 ∙ start .pre .2)
 
 enum-told : tie.Need-enum-told Inv-loop μ-loop
 enum-told c = search needs
@@ -93,52 +122,87 @@ enum-told-2 : tie.Need-enum-told-2 Inv-loop μ-loop
 enum-told-2 c = search needs
 
 clear-requires-2 : tie.Need-clear-requires-2 Inv-loop μ-loop
-clear-requires-2 c κs = let start = c .before .before .before .before .before .before .before .before .before .before .before .before .before .before .before .before .before .before .before .before .before .before .before .before in let sized = start .pre .0 in omega (arith, c .before .before .before .before .before .before .before .solve-terms .kept .1 .1 .1 .1 .1 .1 .1 .0, c .before .before .before .before .before .before .before .before .before .before .before .before .before .before .before .before .before .before .loop .inv .3, start .pre .1)
+clear-requires-2 c κs =
+    let at-solve-terms = c .before .before .before .before .before .before .before in
+    let at-loop = at-solve-terms .before .before .before .before .before .before .before .before .before .before .before in
+    let start = at-loop .before .before .before .before .before .before in
+    let sized = start .pre .0 in omega (arith, at-solve-terms .solve-terms .kept .1 .1 .1 .1 .1 .1 .1 .0, at-loop .loop .inv .3, start .pre .1)
 
 same-length-5 : tie.Need-same-length-5 Inv-loop μ-loop
-same-length-5 c = c .before .before .clear2 .kept .0 ∙ c .before .before .before .before .before .before .before .before .before .before .solve-terms .kept .1 .1 .1 .1 .1 .1 .1 .0 ∙ c .before .before .before .before .before .before .before .before .before .before .before .before .before .before .before .before .before .before .before .before .before .loop .inv .3
+same-length-5 c =
+    let at-clear2 = c .before .before in
+    let at-solve-terms = at-clear2 .before .before .before .before .before .before .before .before in
+    let at-loop = at-solve-terms .before .before .before .before .before .before .before .before .before .before .before in
+    at-clear2 .clear2 .kept .0 ∙ at-solve-terms .solve-terms .kept .1 .1 .1 .1 .1 .1 .1 .0 ∙ at-loop .loop .inv .3
 
 same-length-6 : tie.Need-same-length-6 Inv-loop μ-loop
-same-length-6 c = c .before .before .before .before .before .before .before .before .before .before .solve-terms .kept .1 .1 .1 .1 .1 .1 .1 .1 .0 ∙ c .before .before .before .before .before .before .before .before .before .before .before .before .before .before .before .before .before .before .before .before .before .loop .inv .4
+same-length-6 c =
+    let at-solve-terms = c .before .before .before .before .before .before .before .before .before .before in
+    let at-loop = at-solve-terms .before .before .before .before .before .before .before .before .before .before .before in
+    at-solve-terms .solve-terms .kept .1 .1 .1 .1 .1 .1 .1 .1 .0 ∙ at-loop .loop .inv .4
 
 returns-3 : tie.Need-returns-3 Inv-loop μ-loop
 returns-3 c =
-    let start = c .before .before .before .before .before .before .before .before .before .before .before .before .before .before .before .before .before .before .before .before .before .before .before .before .before .before .before in
-    let turn = c .before .before .before .before .before .before .before .before .before .before .before .before .before .before .before .before .before .before .before .before .before .loop in
+    let at-clear2 = c .before .before in
+    let at-enum-told2 = at-clear2 .before .before in
+    let at-solve-terms = at-enum-told2 .before .before .before .before .before .before in
+    let at-if2 = at-solve-terms .before .before .before in
+    let at-same2 = at-if2 .before in
+    let at-if1 = at-same2 .before in
+    let at-same = at-if1 .before in
+    let at-empty2 = at-same .before in
+    let at-support-of = at-empty2 .before in
+    let at-loop-test = at-support-of .before .before in
+    let at-loop = at-loop-test .before in
+    let start = at-loop .before .before .before .before .before .before in
+    let turn = at-loop .loop in
     let a = start .args in
-    let told = c .before .before .before .before .enum-told2 .given in
-    let solve = c .before .before .before .before .before .before .before .before .before .before .solve-terms in
-    let not-empty = tested-no _ _ 0 (c .before .before .before .before .before .before .before .before .before .before .before .before .before .before .before .before .same .ensures) (c .before .before .before .before .before .before .before .before .before .before .before .before .before .before .before .before .before .empty2 .ensures) (c .before .before .before .before .before .before .before .before .before .before .before .before .before .before .before .if1 .left) in
-    let not-last = tested-no _ _ _ (c .before .before .before .before .before .before .before .before .before .before .before .before .before .before .same2 .ensures) refl (c .before .before .before .before .before .before .before .before .before .before .before .before .before .if2 .left) in
+    let told = at-enum-told2 .enum-told2 .given in
+    let solve = at-solve-terms .solve-terms in
+    let not-empty = tested-no _ _ 0 (at-same .same .ensures) (at-empty2 .empty2 .ensures) (at-if1 .if1 .left) in
+    let not-last = tested-no _ _ _ (at-same2 .same2 .ensures) refl (at-if2 .if2 .left) in
     let long = turn .inv .3 ∙ start .pre .1 in
-    let l : turn .round < a .setup .«max_iter» = omega (arith, c .before .before .before .before .before .before .before .before .before .before .before .before .before .before .before .before .before .before .before .before .loop-test .taken, turn .inv .0) in
+    let l : turn .round < a .setup .«max_iter» = omega (arith, at-loop-test .loop-test .taken, turn .inv .0) in
     turn-refused (a .solver) (a .setup) (now (a .theta)) (now (a .target)) (a .n-rows) (a .n-cols) (turn .inv .5) l long
-    _ (c .before .before .before .before .before .before .before .before .before .before .before .before .before .before .before .before .before .before .support-of .ensures) (solve .result) (told .0 .0) _ (solve .last .1 .1 .1 .1 .1 .1 .1 .0) not-empty not-last (told .1) (solve .ensures) (solve .kept .1 .1 .1 .1 .1 .1 .1 .0 ∙ long) (c .before .before .clear2 .ensures)
+    _ (at-support-of .support-of .ensures) (solve .result) (told .0 .0) _ (solve .last .1 .1 .1 .1 .1 .1 .1 .0) not-empty not-last (told .1) (solve .ensures) (solve .kept .1 .1 .1 .1 .1 .1 .1 .0 ∙ long) (at-clear2 .clear2 .ensures)
 
 add-round : tie.Need-add-round Inv-loop μ-loop
-add-round c = let turn = c .before .before .before .before .before .before .before .before .before .before .before .before .before .before .before .before .before .loop in omega (arith, turn .inv .0, c .before .before .before .before .before .before .before .before .before .before .before .before .before .before .before .before .loop-test .taken, c .before .before .before .before .before .before .before .before .before .before .before .before .before .before .before .before .before .before .before .before .before .before .before .pre .3)
+add-round c =
+    let at-loop-test = c .before .before .before .before .before .before .before .before .before .before .before .before .before .before .before .before in
+    let at-loop = at-loop-test .before in
+    let start = at-loop .before .before .before .before .before .before in
+    let turn = at-loop .loop in omega (arith, turn .inv .0, at-loop-test .loop-test .taken, start .pre .3)
 
 loop-less : tie.Need-loop-less Inv-loop μ-loop
 loop-less c = omega (arith, c .before .before .before .before .before .before .before .before .before .before .before .before .before .before .before .before .loop-test .taken)
 
 loop-again : tie.Need-loop-again Inv-loop μ-loop
 loop-again c =
-    let start = c .before .before .before .before .before .before .before .before .before .before .before .before .before .before .before .before .before .before .before .before .before .before .before in
-    let turn = c .before .before .before .before .before .before .before .before .before .before .before .before .before .before .before .before .before .loop in
+    let at-solve-terms = c .before .before .before .before .before .before in
+    let at-if2 = at-solve-terms .before .before .before in
+    let at-same2 = at-if2 .before in
+    let at-if1 = at-same2 .before in
+    let at-same = at-if1 .before in
+    let at-empty2 = at-same .before in
+    let at-support-of = at-empty2 .before in
+    let at-loop-test = at-support-of .before .before in
+    let at-loop = at-loop-test .before in
+    let start = at-loop .before .before .before .before .before .before in
+    let turn = at-loop .loop in
     let a = start .args in
     let told = c .enum-told .given in
-    let solve = c .before .before .before .before .before .before .solve-terms in
-    let not-empty = tested-no _ _ 0 (c .before .before .before .before .before .before .before .before .before .before .before .before .same .ensures) (c .before .before .before .before .before .before .before .before .before .before .before .before .before .empty2 .ensures) (c .before .before .before .before .before .before .before .before .before .before .before .if1 .left) in
-    let not-last = tested-no _ _ _ (c .before .before .before .before .before .before .before .before .before .before .same2 .ensures) refl (c .before .before .before .before .before .before .before .before .before .if2 .left) in
+    let solve = at-solve-terms .solve-terms in
+    let not-empty = tested-no _ _ 0 (at-same .same .ensures) (at-empty2 .empty2 .ensures) (at-if1 .if1 .left) in
+    let not-last = tested-no _ _ _ (at-same2 .same2 .ensures) refl (at-if2 .if2 .left) in
     let long = turn .inv .3 ∙ start .pre .1 in
-    let l : turn .round < a .setup .«max_iter» = omega (arith, c .before .before .before .before .before .before .before .before .before .before .before .before .before .before .before .before .loop-test .taken, turn .inv .0) in (
+    let l : turn .round < a .setup .«max_iter» = omega (arith, at-loop-test .loop-test .taken, turn .inv .0) in (
       turn .inv .0,
-      omega (arith, c .before .before .before .before .before .before .before .before .before .before .before .before .before .before .before .before .loop-test .taken),
+      omega (arith, at-loop-test .loop-test .taken),
       ap (λ (x : ℕ). x + 1) (turn .inv .2),
-      c .before .before .before .before .before .before .solve-terms .kept .1 .1 .1 .1 .1 .1 .1 .0 ∙ turn .inv .3,
-      c .before .before .before .before .before .before .solve-terms .kept .1 .1 .1 .1 .1 .1 .1 .1 .0 ∙ turn .inv .4,
+      at-solve-terms .solve-terms .kept .1 .1 .1 .1 .1 .1 .1 .0 ∙ turn .inv .3,
+      at-solve-terms .solve-terms .kept .1 .1 .1 .1 .1 .1 .1 .1 .0 ∙ turn .inv .4,
       turn-again (a .solver) (a .setup) (now (a .theta)) (now (a .target)) (a .n-rows) (a .n-cols) (turn .inv .5) l long
-          _ (c .before .before .before .before .before .before .before .before .before .before .before .before .before .before .support-of .ensures) (solve .result) (solve .last .1 .1 .1 .1 .1 .1 .1 .0) not-empty not-last (told .1) (solve .ensures),
+          _ (at-support-of .support-of .ensures) (solve .result) (solve .last .1 .1 .1 .1 .1 .1 .1 .0) not-empty not-last (told .1) (solve .ensures),
     )
 
 same-length-7 : tie.Need-same-length-7 Inv-loop μ-loop

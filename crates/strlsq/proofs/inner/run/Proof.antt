@@ -18,16 +18,19 @@ same-length c = c .before .before .clear .kept .0
 
 returns : tie.Need-returns
 returns c =
-    let start = c .before .before .before .before .before .before .before .before .before in
+    let at-clear = c .before .before in
+    let at-if1 = at-clear .before .before in
+    let start = at-if1 .before .before .before .before .before in
     let a = start .args in
-    no-rows (a .solver) (a .setup) (now (a .theta)) (now (a .target)) (a .n-rows) (a .n-cols) (a .setup .«max_iter») (c .before .before .before .before .if1 .taken)
-    (zeroed (a .n-cols) (now (a .coeffs)) (start .pre .1) (c .before .before .clear .ensures))
+    no-rows (a .solver) (a .setup) (now (a .theta)) (now (a .target)) (a .n-rows) (a .n-cols) (a .setup .«max_iter») (at-if1 .if1 .taken)
+    (zeroed (a .n-cols) (now (a .coeffs)) (start .pre .1) (at-clear .clear .ensures))
 
 returns-2 : tie.Need-returns-2
 returns-2 c =
-    let start = c .before .before .before .before .before .before in
+    let at-if1 = c .before in
+    let start = at-if1 .before .before .before .before .before in
     let a = start .args in
-    no-cols (a .solver) (a .setup) (now (a .theta)) (now (a .target)) (a .n-rows) (a .n-cols) (a .setup .«max_iter») (c .before .if1 .left) (c .if2 .taken)
+    no-cols (a .solver) (a .setup) (now (a .theta)) (now (a .target)) (a .n-rows) (a .n-cols) (a .setup .«max_iter») (at-if1 .if1 .left) (c .if2 .taken)
     (none-left (a .n-cols) (now (a .coeffs)) (c .if2 .taken) (start .pre .1))
 
 full-requires : tie.Need-full-requires
@@ -35,8 +38,9 @@ full-requires c κs = search needs
 
 solve-terms-requires : tie.Need-solve-terms-requires
 solve-terms-requires c κs =
-    let start = c .before .before .before .before .before .before .before .before .before in
-    (start .pre .0, start .pre .1, rw (c .before .before .full .ensures) (full-lt (start .args .n-cols) (start .pre .0 .cols)), start .pre .2)
+    let at-full = c .before .before in
+    let start = at-full .before .before .before .before .before .before .before in
+    (start .pre .0, start .pre .1, rw (at-full .full .ensures) (full-lt (start .args .n-cols) (start .pre .0 .cols)), start .pre .2)
 
 enum-told : tie.Need-enum-told
 enum-told c = search needs
@@ -45,43 +49,66 @@ enum-told-2 : tie.Need-enum-told-2
 enum-told-2 c = search needs
 
 clear-requires-2 : tie.Need-clear-requires-2
-clear-requires-2 c κs = omega (arith, c .before .before .before .before .before .before .before .solve-terms .kept .1 .1 .1 .1 .1 .1 .1 .0, c .before .before .before .before .before .before .before .before .before .before .before .before .before .before .before .before .before .pre .1)
+clear-requires-2 c κs =
+    let at-solve-terms = c .before .before .before .before .before .before .before in
+    let start = at-solve-terms .before .before .before .before .before .before .before .before .before .before in
+    omega (arith, at-solve-terms .solve-terms .kept .1 .1 .1 .1 .1 .1 .1 .0, start .pre .1)
 
 same-length-2 : tie.Need-same-length-2
-same-length-2 c = c .before .before .clear2 .kept .0 ∙ c .before .before .before .before .before .before .before .before .before .before .solve-terms .kept .1 .1 .1 .1 .1 .1 .1 .0
+same-length-2 c =
+    let at-clear2 = c .before .before in
+    let at-solve-terms = at-clear2 .before .before .before .before .before .before .before .before in
+    at-clear2 .clear2 .kept .0 ∙ at-solve-terms .solve-terms .kept .1 .1 .1 .1 .1 .1 .1 .0
 
 same-length-3 : tie.Need-same-length-3
 same-length-3 c = c .before .before .before .before .before .before .before .before .before .before .solve-terms .kept .1 .1 .1 .1 .1 .1 .1 .1 .0
 
 returns-3 : tie.Need-returns-3
 returns-3 c =
-    let start = c .before .before .before .before .before .before .before .before .before .before .before .before .before .before .before .before .before .before .before .before in
+    let at-clear2 = c .before .before in
+    let at-enum-told2 = at-clear2 .before .before in
+    let at-solve-terms = at-enum-told2 .before .before .before .before .before .before in
+    let at-full = at-solve-terms .before .before .before in
+    let at-if2 = at-full .before in
+    let at-if1 = at-if2 .before in
+    let start = at-if1 .before .before .before .before .before in
     let a = start .args in
-    let told = c .before .before .before .before .enum-told2 .given in
-    let solve = c .before .before .before .before .before .before .before .before .before .before .solve-terms in
-    first-refused (a .solver) (a .setup) (now (a .theta)) (now (a .target)) (a .n-rows) (a .n-cols) (c .before .before .before .before .before .before .before .before .before .before .before .before .before .before .before .if1 .left) (c .before .before .before .before .before .before .before .before .before .before .before .before .before .before .if2 .left) (start .pre .0 .cols)
-    (c .before .before .before .before .before .before .before .before .before .before .before .before .before .full .result .0) (c .before .before .before .before .before .before .before .before .before .before .before .before .before .full .ensures) (solve .result) (told .0 .0) (a .setup .«max_iter») _ (solve .last .1 .1 .1 .1 .1 .1 .1 .0) (told .1) (solve .ensures)
-    (solve .kept .1 .1 .1 .1 .1 .1 .1 .0 ∙ start .pre .1) (c .before .before .clear2 .ensures)
+    let told = at-enum-told2 .enum-told2 .given in
+    let solve = at-solve-terms .solve-terms in
+    first-refused (a .solver) (a .setup) (now (a .theta)) (now (a .target)) (a .n-rows) (a .n-cols) (at-if1 .if1 .left) (at-if2 .if2 .left) (start .pre .0 .cols)
+    (at-full .full .result .0) (at-full .full .ensures) (solve .result) (told .0 .0) (a .setup .«max_iter») _ (solve .last .1 .1 .1 .1 .1 .1 .1 .0) (told .1) (solve .ensures)
+    (solve .kept .1 .1 .1 .1 .1 .1 .1 .0 ∙ start .pre .1) (at-clear2 .clear2 .ensures)
 
 rounds-requires : tie.Need-rounds-requires
 rounds-requires c κs =
-    let start = c .before .before .before .before .before .before .before .before .before .before .before .before .before .before .before .before .before .before in
+    let at-enum-told = c .before .before in
+    let at-solve-terms = at-enum-told .before .before .before .before .before .before in
+    let at-full = at-solve-terms .before .before .before in
+    let at-if2 = at-full .before in
+    let at-if1 = at-if2 .before in
+    let start = at-if1 .before .before .before .before .before in
     let a = start .args in
-    let told = c .before .before .enum-told .given in
-    let solve = c .before .before .before .before .before .before .before .before .solve-terms in (
+    let told = at-enum-told .enum-told .given in
+    let solve = at-solve-terms .solve-terms in (
       start .pre .0,
       solve .kept .1 .1 .1 .1 .1 .1 .1 .0 ∙ start .pre .1,
       solve .kept .1 .1 .1 .1 .1 .1 .1 .1 .0 ∙ start .pre .2,
       start .pre .3,
-      first-goes (a .solver) (a .setup) (now (a .theta)) (now (a .target)) (a .n-rows) (a .n-cols) (c .before .before .before .before .before .before .before .before .before .before .before .before .before .if1 .left) (c .before .before .before .before .before .before .before .before .before .before .before .before .if2 .left) (start .pre .0 .cols)
-          (c .before .before .before .before .before .before .before .before .before .before .before .full .result .0) (c .before .before .before .before .before .before .before .before .before .before .before .full .ensures) (solve .result) (solve .last .1 .1 .1 .1 .1 .1 .1 .0) (told .1) (solve .ensures),
+      first-goes (a .solver) (a .setup) (now (a .theta)) (now (a .target)) (a .n-rows) (a .n-cols) (at-if1 .if1 .left) (at-if2 .if2 .left) (start .pre .0 .cols)
+          (at-full .full .result .0) (at-full .full .ensures) (solve .result) (solve .last .1 .1 .1 .1 .1 .1 .1 .0) (told .1) (solve .ensures),
     )
 
 same-length-4 : tie.Need-same-length-4
-same-length-4 c = c .before .before .before .before .rounds .kept .1 .1 .1 .1 .1 .1 .0 ∙ c .before .before .before .before .before .before .before .before .before .before .before .before .before .solve-terms .kept .1 .1 .1 .1 .1 .1 .1 .0
+same-length-4 c =
+    let at-rounds = c .before .before .before .before in
+    let at-solve-terms = at-rounds .before .before .before .before .before .before .before .before .before in
+    at-rounds .rounds .kept .1 .1 .1 .1 .1 .1 .0 ∙ at-solve-terms .solve-terms .kept .1 .1 .1 .1 .1 .1 .1 .0
 
 same-length-5 : tie.Need-same-length-5
-same-length-5 c = c .before .before .before .before .rounds .kept .1 .1 .1 .1 .1 .1 .1 .0 ∙ c .before .before .before .before .before .before .before .before .before .before .before .before .before .solve-terms .kept .1 .1 .1 .1 .1 .1 .1 .1 .0
+same-length-5 c =
+    let at-rounds = c .before .before .before .before in
+    let at-solve-terms = at-rounds .before .before .before .before .before .before .before .before .before in
+    at-rounds .rounds .kept .1 .1 .1 .1 .1 .1 .1 .0 ∙ at-solve-terms .solve-terms .kept .1 .1 .1 .1 .1 .1 .1 .1 .0
 
 returns-4 : tie.Need-returns-4
 returns-4 c = c .before .before .before .before .rounds .ensures

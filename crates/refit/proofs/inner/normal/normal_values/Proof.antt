@@ -41,9 +41,10 @@ part-jtj-of-end c = omega (arith, square _ _ (c .count .ensures), c .before .bef
 
 jtj-of-requires : tie.Need-jtj-of-requires
 jtj-of-requires c κs =
-    let start = c .before .before .before .before .before .before in
+    let at-count = c .before in
+    let start = at-count .before .before .before .before .before in
     let sized = start .pre .0 in
-    let same = square _ _ (c .before .count .ensures) in
+    let same = square _ _ (at-count .count .ensures) in
     (record { few-columns = sized .cols; few-rows = sized .few; matrix = sized .matrix; terms = start .pre .1 }, simp length-take (omega (arith, same, start .pre .3)))
 
 jtr-of-requires : tie.Need-jtr-of-requires
@@ -54,10 +55,13 @@ jtr-of-requires c κs =
 
 normal-equations-packed-requires : tie.Need-normal-equations-packed-requires
 normal-equations-packed-requires c κs =
-    let start = c .before .before .before .before .before .before .before .before .before .before .before .before .before .before .before in
-    let count = c .before .before .before .before .before .before .before .before .before .before .count in (
-      simp (length-append, length-drop) (omega (arith, square _ _ (count .ensures), start .pre .3, simp length-take at (c .before .before .before .before .before .before .before .before .jtj-of .kept .1 .1 .1 .1 .1 .0))),
-      c .before .before .before .before .jtr-of .kept .1 .1 .1 .1 .1 .0 ∙ start .pre .2 ∙ sym (count .ensures),
+    let at-jtr-of = c .before .before .before .before in
+    let at-jtj-of = at-jtr-of .before .before .before .before in
+    let at-count = at-jtj-of .before .before in
+    let start = at-count .before .before .before .before .before in
+    let count = at-count .count in (
+      simp (length-append, length-drop) (omega (arith, square _ _ (count .ensures), start .pre .3, simp length-take at (at-jtj-of .jtj-of .kept .1 .1 .1 .1 .1 .0))),
+      at-jtr-of .jtr-of .kept .1 .1 .1 .1 .1 .0 ∙ start .pre .2 ∙ sym (count .ensures),
     )
 
 same-length : tie.Need-same-length
@@ -69,12 +73,16 @@ same-length-2 c = search needs
 returns : tie.Need-returns
 unfolding by-normal by-sums
 returns c =
-    let start = c .before .before .before .before .before .before .before .before .before .before .before .before .before .before .before .before .before .before .before .before in
-    let count = c .before .before .before .before .before .before .before .before .before .before .before .before .before .before .before .count in
-    let matrix = c .before .before .before .before .before .before .before .before .before .before .before .before .before .jtj-of in
+    let at-normal-equations-packed = c .before .before .before .before in
+    let at-jtr-of = at-normal-equations-packed .before .before .before .before .before in
+    let at-jtj-of = at-jtr-of .before .before .before .before in
+    let at-count = at-jtj-of .before .before in
+    let start = at-count .before .before .before .before .before in
+    let count = at-count .count in
+    let matrix = at-jtj-of .jtj-of in
     let long : length (matrix .last .1 .1 .1 .1 .1 .0) ≡ count .result * count .result =
     omega (arith, square _ _ (count .ensures), start .pre .3, simp length-take at (matrix .kept .1 .1 .1 .1 .1 .0)) in
-    ap solution (c .before .before .before .before .normal-equations-packed .ensures ∙ normal-of (count .result) _ (matrix .last .1 .1 .1 .1 .1 .0) _ _ _ _ (count .ensures) long (matrix .ensures) (c .before .before .before .before .before .before .before .before .before .jtr-of .ensures))
+    ap solution (at-normal-equations-packed .normal-equations-packed .ensures ∙ normal-of (count .result) _ (matrix .last .1 .1 .1 .1 .1 .0) _ _ _ _ (count .ensures) long (matrix .ensures) (at-jtr-of .jtr-of .ensures))
 
 pub normal-values-spec : {M : Type 1} → statement M
 normal-values-spec =

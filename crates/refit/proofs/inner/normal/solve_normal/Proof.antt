@@ -58,8 +58,9 @@ part-normal-values-end-2 c = omega (arith, fits (c .before))
 
 normal-values-requires : tie.Need-normal-values-requires
 normal-values-requires c κs =
-    let start = c .before .before .before .before .before .before .before in
-    let count = c .before .before .count in
+    let at-count = c .before .before in
+    let start = at-count .before .before .before .before .before in
+    let count = at-count .count in
     let same : count .result * count .result ≡ _ = ap (λ (x : ℕ). x * x) (count .ensures) in
     (start .pre .0, start .pre .2, simp length-take (omega (arith, within (c .before .before), count .ensures)), simp length-take (omega (arith, fits (c .before .before), same)))
 
@@ -82,13 +83,16 @@ same-length-2 c = search needs
 returns : tie.Need-returns
 unfolding over-support solves
 returns c =
-    let start = c .before .before .before .before .before .before .before .before .before .before .before .before .before .before in
+    let at-normal-values = c .before .before .before .before .before .before in
+    let start = at-normal-values .before .before .before .before .before .before .before .before in
     let told = c .enum-told2 .given in
-    let values = c .before .before .before .before .before .before .normal-values in
+    let values = at-normal-values .normal-values in
     refused-out (values .result) (told .0 .0) (start .args .n-cols) (start .args .support .0) _ _ _ (told .1) (values .ensures)
 
 scatter-requires : tie.Need-scatter-requires
-scatter-requires c κs = simp (length-append, length-drop) (omega (arith, long (c .before .before .before .before .before .before .before), within (c .before .before .before .before .before .before .before .before .before .before), c .before .before .before .before .before .before .before .before .before .before .before .before .before .before .before .pre .1, c .before .before .before .before .before .before .before .before .before .before .before .before .before .before .before .pre .0 .cols))
+scatter-requires c κs =
+    let start = c .before .before .before .before .before .before .before .before .before .before .before .before .before .before .before in
+    simp (length-append, length-drop) (omega (arith, long (c .before .before .before .before .before .before .before), within (c .before .before .before .before .before .before .before .before .before .before), start .pre .1, start .pre .0 .cols))
 
 same-length-3 : tie.Need-same-length-3
 same-length-3 c = c .before .before .scatter .kept .0 ∙ simp (length-append, length-drop) (omega (arith, long (c .before .before .before .before .before .before .before .before .before .before), within (c .before .before .before .before .before .before .before .before .before .before .before .before .before)))
@@ -99,11 +103,15 @@ same-length-4 c = search needs
 returns-2 : tie.Need-returns-2
 unfolding over-support solves
 returns-2 c =
-    let start = c .before .before .before .before .before .before .before .before .before .before .before .before .before .before .before .before .before .before in
-    let told = c .before .before .before .before .enum-told .given in
-    let values = c .before .before .before .before .before .before .before .before .before .before .normal-values in
+    let at-scatter = c .before .before in
+    let at-enum-told = at-scatter .before .before in
+    let at-normal-values = at-enum-told .before .before .before .before .before .before in
+    let at-count = at-normal-values .before .before .before in
+    let start = at-count .before .before .before .before .before in
+    let told = at-enum-told .enum-told .given in
+    let values = at-normal-values .normal-values in
     done-out (values .result) _ (start .args .n-cols) (start .args .support .0) _ (values .last .1 .1 .1 .1 .1 .1 .0) _ _ (told .1) (values .ensures)
-    (simp (length-append, length-drop) (omega (arith, long (c .before .before .before .before .before .before .before .before .before .before), within (c .before .before .before .before .before .before .before .before .before .before .before .before .before), start .pre .1))) (start .pre .2) (long (c .before .before .before .before .before .before .before .before .before .before) ∙ c .before .before .before .before .before .before .before .before .before .before .before .before .before .count .ensures) (c .before .before .scatter .ensures)
+    (simp (length-append, length-drop) (omega (arith, long (c .before .before .before .before .before .before .before .before .before .before), within (c .before .before .before .before .before .before .before .before .before .before .before .before .before), start .pre .1))) (start .pre .2) (long (c .before .before .before .before .before .before .before .before .before .before) ∙ at-count .count .ensures) (at-scatter .scatter .ensures)
 
 pub solve-normal-spec : {M : Type 1} → statement M
 solve-normal-spec =

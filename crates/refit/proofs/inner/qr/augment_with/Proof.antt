@@ -17,9 +17,11 @@ list-terms-requires c κs = let start = c .before .before .before .before .befor
 
 gather-requires : tie.Need-gather-requires
 gather-requires c κs =
-    let listed = c .before .before .before .before .list-terms in
-    let count = c .before .before .before .before .before .before .count .ensures in
-    let start = c .before .before .before .before .before .before .before .before .before .before in
+    let at-list-terms = c .before .before .before .before in
+    let at-count = at-list-terms .before .before in
+    let start = at-count .before .before .before .before in
+    let listed = at-list-terms .list-terms in
+    let count = at-count .count .ensures in
     let w = start .args .support .0 in
     let few = ones-le (start .args .n-cols) w (start .pre .4) in (
       start .pre .0,
@@ -36,25 +38,35 @@ sqrt-requires c κs = search needs
 
 add-ridge-requires : tie.Need-add-ridge-requires
 add-ridge-requires c κs =
-    let count = c .before .before .before .before .before .before .before .before .before .before .before .count .ensures in
-    let start = c .before .before .before .before .before .before .before .before .before .before .before .before .before .before .before in
+    let at-gather = c .before .before .before .before in
+    let at-count = at-gather .before .before .before .before .before .before .before in
+    let start = at-count .before .before .before .before in
+    let count = at-count .count .ensures in
     let few = ones-le (start .args .n-cols) (start .args .support .0) (start .pre .4) in
-    (start .pre .2, omega arith, rw count (c .before .before .before .before .gather .ensures .long ∙ start .pre .5))
+    (start .pre .2, omega arith, rw count (at-gather .gather .ensures .long ∙ start .pre .5))
 
 same-length : tie.Need-same-length
-same-length c = c .before .before .add-ridge .ensures .long ∙ c .before .before .before .before .before .before .before .gather .ensures .long
+same-length c =
+    let at-add-ridge = c .before .before in
+    let at-gather = at-add-ridge .before .before .before .before .before in
+    at-add-ridge .add-ridge .ensures .long ∙ at-gather .gather .ensures .long
 
 same-length-2 : tie.Need-same-length-2
 same-length-2 c = c .before .before .before .before .before .before .before .before .before .before .before .before .list-terms .kept .1 .1 .0
 
 returns : tie.Need-returns
 returns c =
-    let ridge = c .before .before .add-ridge in
-    let root = c .before .before .before .before .sqrt in
-    let rows = c .before .before .before .before .before .before .before .gather in
-    let listed = c .before .before .before .before .before .before .before .before .before .before .before .before .list-terms in
-    let count = c .before .before .before .before .before .before .before .before .before .before .before .before .before .before .count in
-    let start = c .before .before .before .before .before .before .before .before .before .before .before .before .before .before .before .before .before .before in
+    let at-add-ridge = c .before .before in
+    let at-sqrt = at-add-ridge .before .before in
+    let at-gather = at-sqrt .before .before .before in
+    let at-list-terms = at-gather .before .before .before .before .before in
+    let at-count = at-list-terms .before .before in
+    let start = at-count .before .before .before .before in
+    let ridge = at-add-ridge .add-ridge in
+    let root = at-sqrt .sqrt in
+    let rows = at-gather .gather in
+    let listed = at-list-terms .list-terms in
+    let count = at-count .count in
     let a = start .args in
     rw (← count .ensures, ← root .ensures)
     (augmented-is (a .n-rows) (a .n-cols) (a .support .0) (count .result) (root .result) (now (a .theta)) _ (now (a .s)) _ _ (count .ensures)

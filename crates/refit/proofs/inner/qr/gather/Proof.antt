@@ -29,14 +29,16 @@ mul-take-row c =
 
 mul-take-row-2 : tie.Need-mul-take-row-2 Inv-loop μ-loop
 mul-take-row-2 c =
-    let start = c .before .before .before .before .before .before in
-    let h : c .before .before .loop .i ≤ 4096 = omega arith in
+    let at-loop = c .before .before in
+    let start = at-loop .before .before .before .before in
+    let h : at-loop .loop .i ≤ 4096 = omega arith in
     omega (arith, mul-le-mul h (start .pre .2))
 
 take-row-requires : tie.Need-take-row-requires Inv-loop μ-loop
 take-row-requires c κs =
-    let turn = c .before .before .loop in
-    let start = c .before .before .before .before .before .before in
+    let at-loop = c .before .before in
+    let start = at-loop .before .before .before .before in
+    let turn = at-loop .loop in
     let args = start .args in
     let h : turn .i < args .n-rows = omega arith in (
       start .pre .2,

@@ -30,9 +30,11 @@ same-length c = search needs
 returns : tie.Need-returns
 unfolding withPart
 returns c =
-    let copied = c .before .before .copy in
-    let zeros = c .before .before .before .before .before .before .clear in
-    let start = c .before .before .before .before .before .before .before .before .before .before in
+    let at-copy = c .before .before in
+    let at-clear = at-copy .before .before .before .before in
+    let start = at-clear .before .before .before .before in
+    let copied = at-copy .copy in
+    let zeros = at-clear .clear in
     let args = start .args in
     padded-is (args .n-active) (now (args .target)) (copied .last .1 .0) (now (args .b)) (zeros .last .0) (start .pre .2) (copied .ensures) (zeros .ensures)
 

@@ -64,9 +64,10 @@ part-pad-end c = search needs
 pad-requires : tie.Need-pad-requires
 unfolding withPart
 pad-requires c κs =
-    let start = c .before .before .before .before .before .before .before .before in
+    let at-augment = c .before .before .before in
+    let start = at-augment .before .before .before .before .before in
     let a = start .args in
-    let made = c .before .before .before .augment in
+    let made = at-augment .augment in
     let long = length-made (a .n-rows) (a .support .0) (a .n-active) _ _ (start .pre .2) (made .ensures) in (
       omega (arith, start .pre .0 .right, start .pre .0 .few),
       narrow (a .n-rows) (a .n-cols) (a .support .0) (a .n-active) (start .pre .2) (start .pre .1) (start .pre .0),
@@ -76,10 +77,12 @@ pad-requires c κs =
 least-packed-requires : tie.Need-least-packed-requires
 unfolding withPart
 least-packed-requires c κs =
-    let start = c .before .before .before .before .before .before .before .before .before .before .before .before in
+    let at-pad = c .before .before .before in
+    let at-augment = at-pad .before .before .before .before in
+    let start = at-augment .before .before .before .before .before in
     let a = start .args in
-    let made = c .before .before .before .before .before .before .before .augment in
-    let padded = c .before .before .before .pad in
+    let made = at-augment .augment in
+    let padded = at-pad .pad in
     let long = length-made (a .n-rows) (a .support .0) (a .n-active) _ _ (start .pre .2) (made .ensures) in
     let behind : length (padded .last .1 .1 .0) ≡ a .n-rows + a .n-active = ap length (padded .ensures) ∙ length-tab _ _ ∙ rw (start .pre .0 .right) in
     record {
@@ -95,10 +98,13 @@ same-length c = search needs
 returns : tie.Need-returns
 unfolding withPart
 returns c =
-    let solved = c .before .before .least-packed in
-    let made = c .before .before .before .before .before .before .before .before .before .before .augment in
-    let padded = c .before .before .before .before .before .before .pad in
-    let start = c .before .before .before .before .before .before .before .before .before .before .before .before .before .before .before in
+    let at-least-packed = c .before .before in
+    let at-pad = at-least-packed .before .before .before .before in
+    let at-augment = at-pad .before .before .before .before in
+    let start = at-augment .before .before .before .before .before in
+    let solved = at-least-packed .least-packed in
+    let made = at-augment .augment in
+    let padded = at-pad .pad in
     let a = start .args in
     solved .ensures
     ∙ qr-is (a .n-rows) (a .n-cols) (a .support .0) (a .n-active) (a .lambda) (now (a .theta)) (now (a .target)) (now (a .ws)) (made .last .1 .1 .1 .1 .1 .0) (padded .last .1 .1 .0) (start .pre .2) (start .pre .0 .right) (start .pre .3) (made .ensures) (padded .ensures)

@@ -111,20 +111,22 @@ loop-less c = omega (arith, c .before .before .before .before .before .before .b
 
 loop-again : tie.Need-loop-again Inv-loop μ-loop
 loop-again c =
-    let found = c .before .before .before .before .before .before in
+    let at-lessen-above = c .before .before in
+    let at-if1 = at-lessen-above .before .before .before in
+    let found = at-if1 .before in
     let test = found .before .before .before in
     let turn = test .before .loop in
     let n = cols test in
     let k = rows test * n in
     let a = matrix test in
     let len : length a ≡ k = length-take-le k _ (omega (arith, test .before .before .before .pre)) in
-    let lessened = c .before .before .lessen-above in
+    let lessened = at-lessen-above .lessen-above in
     let made = back-step n k (turn .j - 1) a (turn .s) (lessened .last .0) _ (turn .inv .2) (found .before .cell .ensures ∙ diagonal test) (lessened .ensures) in (
       omega (arith, turn),
       lessened .kept .0 ∙ simp length-set (turn .inv .1),
       take-front a _ _ k len made,
       ap (way-down (back-column n a) (turn .j - 1)) (drop-back a _ _ k len made)
-          ∙ sym (back-goes n (turn .j) a (drop k (turn .s)) (omega (arith, test)) (tested found (c .before .before .before .before .before .if1 .left))) ∙ turn .inv .3,
+          ∙ sym (back-goes n (turn .j) a (drop k (turn .s)) (omega (arith, test)) (tested found (at-if1 .if1 .left))) ∙ turn .inv .3,
     )
 
 same-length-2 : tie.Need-same-length-2 Inv-loop μ-loop

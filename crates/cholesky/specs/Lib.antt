@@ -1,0 +1,2 @@
+-- Cholesky. Assumes nothing.
+pub mod Cholesky

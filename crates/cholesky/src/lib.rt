@@ -1,0 +1,2 @@
+// Cholesky, for `solve`: nothing here is a public call.
+pub mod inner;

@@ -1,0 +1,2 @@
+// The coefficients, for the fits: nothing here is a public call.
+pub mod inner;

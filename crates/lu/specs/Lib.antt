@@ -1,0 +1,2 @@
+-- LU. Assumes nothing.
+pub mod Lu

@@ -1,0 +1,2 @@
+// LU, for `solve`: nothing here is a public call.
+pub mod inner;
