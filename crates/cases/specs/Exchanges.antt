@@ -2,7 +2,7 @@
 use mathlib.Core.Path.{_≡_, refl}
 use Rattle.frames.specs.Exchange.{answer-of}
 use Rattle.frames.specs.Examples.{text, framed}
-use Rattle.cases.specs.Fits.{fits}
+use Rattle.table.specs.Fits.{fits}
 
 pub F1-exchange : answer-of (text "01000202000a3fe00000000000000000000000000000\n40080000000000003ff00000000000000000000000000000\n3fd000000000000000000000000000003ff0000000000000\n")
     ≡ text "0400010000000000000001\n4008000000000000\n0000000000000000\n"

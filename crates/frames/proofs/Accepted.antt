@@ -7,9 +7,9 @@ use native.Mathlib.Omega.{arith}
 use lib.ListN.{length, take}
 use lib.Ieee.{Float}
 use Rattle.steps.specs.Table.{tab, table, length-tab, length-table}
-use Rattle.frames.specs.Rows.{target as target-of, feature, Formed}
+use Rattle.reader.specs.Rows.{target as target-of, feature, Formed}
 use Rattle.frames.specs.Exchange.{Accepted, Fitting, fit-as, fit-of}
-use Rattle.frames.specs.declared.header.Header.{Header}
+use Rattle.reader.specs.declared.inner.header.Header.{Header}
 
 -- theta and target as they were read are lent from their first number on
 first-part : (n : ℕ) (l t : List Float) → take n l ≡ t → take (n - 0) l ≡ t

@@ -19,7 +19,7 @@ use Rattle.rule.specs.declared.Fitted.the-variants as F
 use Rattle.hex.specs.Put.{Written}
 use Rattle.frames.specs.Answer.{report-line, coefficient-lines}
 use Rattle.frames.specs.Exchange.{Fitting, fit-as, fit-lines}
-use Rattle.frames.specs.declared.header.Header.{Header}
+use Rattle.reader.specs.declared.inner.header.Header.{Header}
 
 -- the largest workspace is that of 128 rows and 16 columns by QR
 need-most : (solver : Solver) (rows cols : ℕ) → rows ≤ 128 → cols ≤ 16 → fit-need solver rows cols ≤ 5088

@@ -1,5 +1,3 @@
-pub mod HeaderLaws
-pub mod RowLaws
 pub mod AnswerLaws
 pub mod FitLaws
 pub mod Accepted

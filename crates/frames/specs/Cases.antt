@@ -11,12 +11,12 @@ use Rattle.refusal.specs.declared.Answer.{Answer}
 use Rattle.refusal.specs.declared.Answer.the-variants.{Done}
 use Rattle.refusal.specs.declared.Refusal.{Refusal}
 use Rattle.refusal.specs.declared.Refusal.the-variants.{ManyColumns, ManyRows, ManyRounds, Malformed}
-use Rattle.frames.specs.Header.{head-of}
-use Rattle.frames.specs.Rows.{rows-formed}
+use Rattle.reader.specs.Header.{head-of}
+use Rattle.reader.specs.Rows.{rows-formed}
 use Rattle.frames.specs.Answer.{refusal-line}
 use Rattle.frames.specs.Exchange.{checked, Accepted, answer-lines, answer-to, answer-of}
-use Rattle.frames.specs.declared.header.Header.{Header}
-use Rattle.frames.specs.declared.header.Head.the-variants.{Good, Wrong}
+use Rattle.reader.specs.declared.inner.header.Header.{Header}
+use Rattle.reader.specs.declared.inner.header.Head.the-variants.{Good, Wrong}
 
 -- a malformed header
 pub answer-wrong : (s : List ℕ) → head-of s ≡ Wrong → answer-of s ≡ refusal-line Malformed

@@ -18,13 +18,13 @@ use Rattle.refusal.specs.declared.Refusal.{Refusal}
 use Rattle.refusal.specs.declared.Refusal.the-variants.{ManyColumns, ManyRows, ManyRounds, Malformed}
 use Rattle.hex.specs.All.{all}
 use Rattle.hex.specs.Hex.{value, all-hex, number}
-use Rattle.frames.specs.Header.{header-formed, header, head-of}
-use Rattle.frames.specs.Rows.{row-at, rows-formed}
+use Rattle.reader.specs.Header.{header-formed, header, head-of}
+use Rattle.reader.specs.Rows.{row-at, rows-formed}
 use Rattle.frames.specs.Answer.{refusal-line}
 use Rattle.frames.specs.Exchange.{checked, answer-lines, answer-to, answer-of}
-use Rattle.frames.specs.declared.header.Header.{Header}
-use Rattle.frames.specs.declared.header.Head.{Head}
-use Rattle.frames.specs.declared.header.Head.the-variants.{Good, Wrong}
+use Rattle.reader.specs.declared.inner.header.Header.{Header}
+use Rattle.reader.specs.declared.inner.header.Head.{Head}
+use Rattle.reader.specs.declared.inner.header.Head.the-variants.{Good, Wrong}
 
 -- one byte more than the longest valid input has
 abbrev pub room : ℕ

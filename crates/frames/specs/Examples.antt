@@ -8,8 +8,8 @@ use Prim.Native.String.{String}
 use lib.Ieee.{toBits, isNan}
 use Rattle.hex.specs.All.{all}
 use Rattle.hex.specs.Hex as H
-use Rattle.frames.specs.Header as D
-use Rattle.frames.specs.Rows as R
+use Rattle.reader.specs.Header as D
+use Rattle.reader.specs.Rows as R
 use Rattle.frames.specs.Answer as A
 use Rattle.frames.specs.Exchange as X
 use Rattle.frames.specs.Exchange.{answer-of}

@@ -14,12 +14,12 @@ use Rattle.refusal.specs.declared.Answer.the-variants.{Done, Refused}
 use Rattle.refusal.specs.declared.Refusal.the-variants.{ManyColumns, ManyRows, ManyRounds, Malformed}
 use Rattle.rule.specs.Rule.{Fit}
 use Rattle.rule.specs.Fits.{fit-by}
-use Rattle.frames.specs.Header.{head-of}
-use Rattle.frames.specs.Rows.{rows-formed, target, feature, Formed}
+use Rattle.reader.specs.Header.{head-of}
+use Rattle.reader.specs.Rows.{rows-formed, target, feature, Formed}
 use Rattle.frames.specs.Answer.{refusal-line, report-line, coefficient-lines}
-use Rattle.frames.specs.declared.header.Header.{Header}
-use Rattle.frames.specs.declared.header.Head.{Head}
-use Rattle.frames.specs.declared.header.Head.the-variants.{Good, Wrong}
+use Rattle.reader.specs.declared.inner.header.Header.{Header}
+use Rattle.reader.specs.declared.inner.header.Head.{Head}
+use Rattle.reader.specs.declared.inner.header.Head.the-variants.{Good, Wrong}
 
 -- after a good header: 1, 2, 3 by the program's own limits, then malformed rows or tail
 unfoldable pub checked : List ℕ → Header → Answer

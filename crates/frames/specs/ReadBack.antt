@@ -15,13 +15,13 @@ use Rattle.rule.specs.Codes.{stop-code}
 use Rattle.rule.specs.declared.Stop.{Stop}
 use Rattle.rule.specs.declared.Stop.the-variants.{NoData, FirstRefused, Empty, RefitRefused, Settled, OutOfRounds}
 use Rattle.frames.specs.Answer.{report-line, coefficient-lines}
-use Rattle.frames.specs.Header.{head-of}
+use Rattle.reader.specs.Header.{head-of}
 use Rattle.frames.specs.Exchange.{checked, fit-of, fit-lines, answer-lines, answer-of}
 use Rattle.frames.specs.Cases.{answer-good, accepted}
 use Rattle.frames.specs.Lines.{lines-append, length-lines, length-report}
 use Rattle.frames.specs.Within.{refits-within, kept-within}
-use Rattle.frames.specs.declared.header.Header.{Header}
-use Rattle.frames.specs.declared.header.Head.the-variants.{Good}
+use Rattle.reader.specs.declared.inner.header.Header.{Header}
+use Rattle.reader.specs.declared.inner.header.Head.the-variants.{Good}
 use Rattle.refusal.specs.declared.Answer.the-variants.{Done}
 
 -- what the digits of an answer say of a fit

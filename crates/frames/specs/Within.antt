@@ -17,7 +17,7 @@ use Rattle.rule.specs.Promises.{of}
 use Rattle.rule.specs.declared.Setup.{Setup}
 use Rattle.rule.specs.declared.Solver.{Solver}
 use Rattle.frames.specs.Exchange.{Accepted, fit-of}
-use Rattle.frames.specs.declared.header.Header.{Header}
+use Rattle.reader.specs.declared.inner.header.Header.{Header}
 
 module _ (P : Problem) where
   -- a round refits at most once

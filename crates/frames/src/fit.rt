@@ -4,7 +4,8 @@ ghost use Prim.Native.Nat.{_*_, _≤_};
 ghost use lib.ListN.{length};
 ghost use Rattle.hex.specs.Put.{Written};
 ghost use Rattle.frames.specs.Exchange.{Accepted, Fitting, fit-as, fit-of, fit-lines};
-use crate::header::Header;
+use reader::inner::header::Header;
+use reader::inner::rows;
 use rule::Fitted;
 
 // Fits theta and target by the header's solver, and writes the lines.
@@ -57,7 +58,7 @@ pub fn fit_rows(s: &[u8], h: Header, out: &mut [u8]) -> usize
     let n = rows * cols;
     let mut theta = [0.0f64; 2048];
     let mut target = [0.0f64; 128];
-    crate::rows::read_theta(s, rows, cols, &mut theta);
-    crate::rows::read_target(s, rows, cols, &mut target);
+    rows::read_theta(s, rows, cols, &mut theta);
+    rows::read_target(s, rows, cols, &mut target);
     fit_read(h, &theta[0..n], &target[0..rows], out)
 }

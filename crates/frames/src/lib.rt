@@ -1,13 +1,13 @@
 // The bench program's exchange: the bytes of an input in, those of its answer out.
 mod answer;
 mod fit;
-mod header;
-mod rows;
 
 ghost use mathlib.Core.Path.{_≡_};
 ghost use Rattle.frames.specs.Exchange.{checked, Exchange};
-use header::Head;
-use header::Header;
+use reader::inner::header::Head;
+use reader::inner::header::Header;
+use reader::inner::header::read_header;
+use reader::inner::rows;
 use refusal::Answer;
 use refusal::Refusal;
 
@@ -37,7 +37,7 @@ fn check(s: &[u8], h: Header) -> Answer
 pub fn respond(input: &[u8], answer: &mut [u8; 295]) -> usize
     ensures { λ r. ⌜ Exchange (now (input .entry)) (now (answer .entry)) (now (answer .exit)) r ⌝ }
 {
-    let Head::Good(h) = header::read_header(input) else {
+    let Head::Good(h) = read_header(input) else {
         return answer::write_refusal(Refusal::Malformed, answer);
     };
     match check(input, h) {

@@ -2,9 +2,9 @@
 use mathlib.Core.Path.{_≡_, sym, _∙_}
 use native.Mathlib.Omega.{arith}
 use borrow.Author.Needs.{needs}
-use Rattle.frames.specs.Header.{head-of}
+use Rattle.reader.specs.Header.{head-of}
 use Rattle.frames.specs.Exchange.{answer-lines}
-use Rattle.frames.specs.declared.header.Head.the-variants.{Good}
+use Rattle.reader.specs.declared.inner.header.Head.the-variants.{Good}
 use Rattle.frames.specs.Cases.{answer-wrong, answer-good, accepted}
 use Rattle.frames.proofs.ExchangeLaws.{exchange}
 use Rattle.frames.proofs.respond.Statement.{statement}

@@ -1,0 +1,3 @@
+-- Laws of the frames of an input. Assumes nothing.
+mod HeaderLaws
+mod RowLaws

@@ -1,0 +1,3 @@
+-- The frames of an input. Assumes nothing.
+pub mod Header
+pub mod Rows

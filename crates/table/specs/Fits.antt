@@ -1,0 +1,97 @@
+-- Document 01's cases of the fits, by computing. The F cases are of `strlsq`.
+use Prim.Native.Nat.{ℕ}
+use mathlib.Core.Path.{_≡_, refl}
+use mathlib.Core.List.{List, [], _∷_}
+use lib.Ieee.{Float, nan}
+use lib.Count.{ones}
+use Rattle.steps.specs.Num.{lit, +zero, -zero, one, -one, two, at, cell}
+use Rattle.support.specs.Word as W
+use Rattle.builders.specs.Products as B
+use Rattle.rule.specs.Rule as R
+use Rattle.rule.specs.Rule.{Fit}
+use Rattle.rule.specs.Fits as F
+use Rattle.rule.specs.declared.Setup.{Setup}
+use Rattle.rule.specs.declared.Solver.{Solver}
+use Rattle.rule.specs.declared.Solver.the-variants.{Normal, Qr}
+use Rattle.rule.specs.declared.Stop.{Stop}
+use Rattle.rule.specs.declared.Stop.the-variants.{NoData, FirstRefused, Empty, RefitRefused, Settled, OutOfRounds}
+use Rattle.table.specs.Solvers.{opened, three, four}
+
+-- all that a fit computes with
+unfoldable pub fits : Unit {0}
+unfolding opened ones W.has W.count W.word W.terms W.place W.term
+    B.gram B.moment B.ridge B.damped B.jtj-matrix B.jtr-column B.columns
+    R.support R.scatter R.refit R.look R.round R.first R.start R.rounds R.pruned R.reported R.finish R.fit
+    F.keeps F.clears F.by-sums F.by-normal F.augmented F.padded F.by-least F.solves F.problem F.fit-by
+fits = tt
+
+abbrev half : Float
+half = lit 0x3fe0000000000000
+
+-- a fit of a matrix that is stored by rows
+abbrev of : Solver → List Float → List Float → ℕ → ℕ → Setup → Fit
+of solver theta target rows n s = F.fit-by solver (cell n theta) (at target) rows n s
+
+abbrev setup : Float → Float → ℕ → Setup
+setup t l m = record { threshold = t; lambda = l; «max_iter» = m }
+
+abbrev gives : List Float → Stop → ℕ → ℕ → Fit
+gives cs t r k = record { coeffs = cs; stop = t; refits = r; kept = k }
+
+-- F1's matrix and target
+abbrev theta1 : List Float
+theta1 = one ∷ +zero ∷ +zero ∷ one ∷ []
+
+abbrev target1 : List Float
+target1 = three ∷ lit 0x3fd0000000000000 ∷ []
+
+pub F1 : of Normal theta1 target1 2 2 (setup half +zero 10) ≡ gives (three ∷ +zero ∷ []) Settled 1 1
+unfolding fits
+F1 = refl
+
+pub F2 : of Normal theta1 target1 2 2 (setup half +zero 0) ≡ gives (three ∷ +zero ∷ []) OutOfRounds 0 1
+unfolding fits
+F2 = refl
+
+pub F3 : of Normal theta1 target1 2 2 (setup half +zero 1) ≡ gives (three ∷ +zero ∷ []) OutOfRounds 1 1
+unfolding fits
+F3 = refl
+
+pub F4 : of Normal theta1 target1 2 2 (setup four +zero 10) ≡ gives (+zero ∷ +zero ∷ []) Empty 0 0
+unfolding fits
+F4 = refl
+
+pub F5 : of Normal (+zero ∷ []) (one ∷ []) 1 1 (setup half +zero 1) ≡ gives (+zero ∷ []) FirstRefused 0 0
+unfolding fits
+F5 = refl
+
+pub F6 : of Normal (one ∷ []) (half ∷ []) 1 1 (setup half +zero 2) ≡ gives (half ∷ []) Settled 1 1
+unfolding fits
+F6 = refl
+
+pub F7 : of Normal (+zero ∷ []) (one ∷ []) 1 1 (setup +zero -one 0) ≡ gives (-zero ∷ []) OutOfRounds 0 1
+unfolding fits
+F7 = refl
+
+pub F8-none : of Normal (one ∷ []) (nan ∷ []) 1 1 (setup half +zero 0) ≡ gives (nan ∷ []) OutOfRounds 0 0
+unfolding fits
+F8-none = refl
+
+pub F8-one : of Normal (one ∷ []) (nan ∷ []) 1 1 (setup half +zero 1) ≡ gives (+zero ∷ []) Empty 0 0
+unfolding fits
+F8-one = refl
+
+-- F1 by the second fit
+pub F1-qr : of Qr theta1 target1 2 2 (setup half +zero 10) ≡ gives (three ∷ +zero ∷ []) Settled 1 1
+unfolding fits
+F1-qr = refl
+
+-- G1: the last column alone is kept: its value goes back to its term, not to its reduced place
+pub G1 : of Normal theta1 (lit 0x3fd0000000000000 ∷ three ∷ []) 2 2 (setup half +zero 10) ≡ gives (+zero ∷ three ∷ []) Settled 1 2
+unfolding fits
+G1 = refl
+
+-- G2: no columns, and no rows: zeros, and the kept word by its rule at a threshold of zero
+pub G2 : of Normal [] [] 0 2 (setup +zero +zero 3) ≡ gives (+zero ∷ +zero ∷ []) NoData 0 3
+unfolding fits
+G2 = refl
