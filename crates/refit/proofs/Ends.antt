@@ -11,7 +11,7 @@ use lib.Ieee.{Float}
 use Rattle.refusal.specs.Answers.{Solution, solved, refused}
 use Rattle.refusal.specs.declared.Solved.{Solved}
 use Rattle.refusal.specs.declared.Solved.the-variants.{Done, Refused}
-use Rattle.solve.specs.Normal.{normal}
+use Rattle.normal.specs.Normal.{normal}
 use Rattle.rule.specs.Rule.{scatter}
 use Rattle.refit.specs.Parts.{gave, placed}
 use Rattle.refit.proofs.Head.{scatter-head}

@@ -14,7 +14,7 @@ use Rattle.steps.specs.Space.{part, withPart, length-with}
 use Rattle.steps.specs.Glue.{both-parts}
 use Rattle.float64.specs.Root.{rootOf}
 use Rattle.builders.specs.Products.{columns}
-use Rattle.solve.specs.Least.{least}
+use Rattle.least.specs.Least.{least}
 use Rattle.rule.specs.Fits.{augmented, padded, by-least}
 
 -- the length of a lent head, and of a lent part behind another

@@ -1,3 +1,3 @@
 // Each may require what the public call of a fit has tested.
-pub mod normal;
-pub mod qr;
+pub mod by_least;
+pub mod by_normal;

@@ -10,8 +10,8 @@ use Rattle.steps.specs.Table.{tab, table}
 use Rattle.float64.specs.Root.{rootOf, absOf}
 use Rattle.refusal.specs.Answers.{Solution, solution}
 use Rattle.builders.specs.Products.{gram, moment, ridge, jtj-matrix, jtr-column, columns}
-use Rattle.solve.specs.Normal.{normal}
-use Rattle.solve.specs.Least.{least}
+use Rattle.normal.specs.Normal.{normal}
+use Rattle.least.specs.Least.{least}
 use Rattle.rule.specs.Rule.{Problem, Fit, fit}
 use Rattle.rule.specs.declared.Setup.{Setup}
 use Rattle.rule.specs.declared.Solver.{Solver}

@@ -23,8 +23,8 @@ use Rattle.builders.specs.ProductLaws.{gram-cong, moment-cong, columns-full}
 use Rattle.decomp.specs.Qr.{turn, qt, after, betas}
 use Rattle.cholesky.specs.Cholesky.{chol-forward, chol-back, chol-end, chol-factor, cholesky}
 use Rattle.lu.specs.Lu.{pivot-row, swap-rows, lu-swap, lu-eliminate, lu-pivoted, lu-column, lu-factor, lu-forward, lu-back, lu-end, lu}
-use Rattle.solve.specs.Normal.{right, or-lu, normal}
-use Rattle.solve.specs.Least.{above, back-column, back, values, least}
+use Rattle.normal.specs.Normal.{right, or-lu, normal}
+use Rattle.least.specs.Least.{above, back-column, back, values, least}
 use Rattle.rule.specs.declared.Solver.{Solver}
 use Rattle.rule.specs.declared.Solver.the-variants.{Normal, Qr}
 use Rattle.rule.specs.Fits.{by-sums, by-normal, augmented, padded, by-least, solves}

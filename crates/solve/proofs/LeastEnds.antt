@@ -9,7 +9,7 @@ use Rattle.steps.specs.Space.{cleared}
 use Rattle.refusal.specs.declared.Answer.the-variants.{Done, Refused}
 use Rattle.refusal.specs.declared.Refusal.{Refusal}
 use Rattle.refusal.specs.declared.Refusal.the-variants.{SmallPivot}
-use Rattle.solve.specs.Least.{values, least}
+use Rattle.least.specs.Least.{values, least}
 use Rattle.solve.specs.Calls.{LeastCall, least-sizes, least-need}
 
 module _ {a b : List Float} {m n : ℕ} {o w : List Float} where

@@ -16,7 +16,7 @@ use Rattle.refusal.specs.declared.Solved.{Solved}
 use Rattle.refusal.specs.declared.Solved.the-variants as S
 use Rattle.cholesky.specs.Cholesky.{cholesky}
 use Rattle.lu.specs.Lu.{lu}
-use Rattle.solve.specs.Normal.{normal}
+use Rattle.normal.specs.Normal.{normal}
 use Rattle.solve.specs.Calls.{square-sizes, normal-sizes, CholeskyCall, LuCall, NormalCall}
 
 module _ (n matrix right : ℕ) where

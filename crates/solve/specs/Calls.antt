@@ -14,8 +14,8 @@ use Rattle.refusal.specs.declared.Answer.the-variants.{Done, Refused}
 use Rattle.refusal.specs.declared.Refusal.the-variants.{ManyColumns, ManyRows, MatrixLength, TargetLength, OutputLength, FewRows, WorkspaceShort, NotSpd, SmallPivot}
 use Rattle.cholesky.specs.Cholesky.{cholesky}
 use Rattle.lu.specs.Lu.{lu}
-use Rattle.solve.specs.Normal.{normal}
-use Rattle.solve.specs.Least.{least}
+use Rattle.normal.specs.Normal.{normal}
+use Rattle.least.specs.Least.{least}
 
 -- the first refusal that applies to a square solver of n columns with these lengths, before the next ones
 unfoldable pub square-sizes : ℕ → ℕ → ℕ → Answer → Answer

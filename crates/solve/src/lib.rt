@@ -1,10 +1,9 @@
-// The solvers.
-pub mod inner;
-
+// The solvers: the public calls.
 ghost use Rattle.solve.specs.Calls.{CholeskyCall, LeastCall, LuCall, NormalCall};
 use cholesky::inner::cholesky;
-use inner::normal::normal_equations;
+use least::inner::least_of;
 use lu::inner::lu;
+use normal::inner::normal_equations;
 use refusal::Answer;
 use refusal::Refusal;
 use refusal::Solved;
@@ -109,7 +108,7 @@ pub fn solve_least_squares(
         return Answer::Refused(Refusal::WorkspaceShort);
     }
     let end = mn + m;
-    let Solved::Done = inner::least::least_of(a, b, &mut workspace[0..end], m, n) else {
+    let Solved::Done = least_of(a, b, &mut workspace[0..end], m, n) else {
         clear(workspace, need);
         return Answer::Refused(Refusal::SmallPivot);
     };

@@ -1,5 +1,2 @@
--- Laws that the proofs of the fits share.
-pub mod Turns
-pub mod Rounds
-pub mod First
+-- Laws that the proofs of the fits share. Assumes nothing.
 pub mod Report

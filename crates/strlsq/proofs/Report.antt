@@ -24,7 +24,8 @@ use Rattle.rule.specs.declared.Fitted.the-variants as F
 use Rattle.rule.specs.Rule.{reported, pruned, support}
 use Rattle.rule.specs.Fits.{keeps, clears, problem, fit-by}
 use Rattle.rule.specs.Calls.{fit-need, fit-sizes, FitCall}
-use Rattle.strlsq.specs.Ran.{problem-of, CameTo, Reports}
+use Rattle.rounds.specs.Ran.{problem-of, CameTo}
+use Rattle.strlsq.specs.Reports.{Reports}
 
 -- the last pass and the kept word make the report
 pub reports : (solver : Solver) (setup : Setup) (theta target : List Float) (rows n : ℕ) (stop : Stop) (refits : ℕ) (kept : Support) (cs cs' : List Float) → length cs ≡ n → length cs' ≡ n

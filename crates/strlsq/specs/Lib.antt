@@ -1,2 +1,2 @@
--- What the rounds of a fit promise. Assumes nothing.
-pub mod Ran
+-- What a fit promises beside its call. Assumes nothing.
+pub mod Reports

@@ -15,8 +15,8 @@ use Rattle.refusal.specs.Answers.{solved, refused}
 use Rattle.decomp.specs.Qr as Q
 use Rattle.cholesky.specs.Cholesky as C
 use Rattle.lu.specs.Lu as U
-use Rattle.solve.specs.Normal as E
-use Rattle.solve.specs.Least as M
+use Rattle.normal.specs.Normal as E
+use Rattle.least.specs.Least as M
 
 -- all that a case computes with: `unfolding opened` opens it
 unfoldable pub opened : Unit {0}

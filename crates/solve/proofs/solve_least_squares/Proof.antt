@@ -15,9 +15,9 @@ use Rattle.steps.specs.Space.{withPart, cleared}
 use Rattle.refusal.specs.Answers.{told}
 use Rattle.refusal.specs.declared.Answer.the-variants.{Done}
 use Rattle.refusal.specs.declared.Solved.{Solved}
-use Rattle.solve.specs.Least.{values, least}
+use Rattle.least.specs.Least.{values, least}
 use Rattle.solve.specs.Calls.{least-sizes, least-need}
-use Rattle.solve.proofs.Least.{read, clears}
+use Rattle.solve.proofs.LeastSpace.{read, clears}
 use Rattle.solve.proofs.LeastEnds.{refuses, stops, solves}
 use Rattle.solve.proofs.solve_least_squares.Statement.{statement}
 use Rattle.solve.proofs.solve_least_squares.Tie as tie

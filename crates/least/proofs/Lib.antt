@@ -1,0 +1,2 @@
+-- Laws of back substitution inside one slice. Assumes nothing.
+mod Back

@@ -1,0 +1,2 @@
+-- Least squares. Assumes nothing.
+pub mod Least

@@ -1,0 +1,2 @@
+// Least squares, for `solve` and the fits: nothing here is a public call.
+pub mod inner;

@@ -1,0 +1,2 @@
+-- The ways out of the solve. Assumes nothing.
+mod Ends

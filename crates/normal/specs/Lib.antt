@@ -1,0 +1,2 @@
+-- The normal equations. Assumes nothing.
+pub mod Normal

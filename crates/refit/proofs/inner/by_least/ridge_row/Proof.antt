@@ -1,0 +1,54 @@
+-- `ridge_row` meets its contract. The loop's invariant: the columns passed have their numbers.
+use mathlib.Core.Bool.{cond}
+use Prim.Native.Nat.{_+_, _-_, _≤_}
+use native.Mathlib.Omega.{arith}
+use lib.Dec.{eqb}
+use borrow.Author.Needs.{needs}
+use denote.Ref.{now}
+use Rattle.steps.specs.Num.{+zero}
+use Rattle.steps.specs.Wrote.{Wrote, wrote-none, wrote-more, wrote-end}
+use Rattle.refit.proofs.inner.by_least.ridge_row.Statement.{statement}
+use Rattle.refit.proofs.inner.by_least.ridge_row.Tie as tie
+
+abbrev Inv-loop : tie.InvT-loop
+Inv-loop i n-active root s₀ to c₀ s c = (c ≤ n-active) × Wrote (λ k. to + k) 0 c (λ k. cond (eqb i k) root +zero) s₀ s
+
+abbrev μ-loop : tie.MeasureT-loop
+μ-loop i n-active root s₀ to c₀ s c = n-active - c
+
+loop-holds : tie.Need-loop-holds Inv-loop μ-loop
+loop-holds c = (omega arith, wrote-none _ _ _ _)
+
+ridge-entry-requires : tie.Need-ridge-entry-requires Inv-loop μ-loop
+ridge-entry-requires c κs = search needs
+
+add-s : tie.Need-add-s Inv-loop μ-loop
+add-s c = omega arith
+
+mul-s : tie.Need-mul-s Inv-loop μ-loop
+mul-s c = omega arith
+
+slice-write-s : tie.Need-slice-write-s Inv-loop μ-loop
+slice-write-s c = omega arith
+
+add-c : tie.Need-add-c Inv-loop μ-loop
+add-c c = omega arith
+
+loop-less : tie.Need-loop-less Inv-loop μ-loop
+loop-less c = omega arith
+
+loop-again : tie.Need-loop-again Inv-loop μ-loop
+loop-again c =
+    let turn = c .before .before .loop in
+    let args = c .before .before .before .before .args in
+    (omega arith, wrote-more (λ k. args .to + k) 0 (turn .c) _ (now (args .s)) (turn .s) _ (omega arith) (omega arith) (λ k h h' e. omega arith) (turn .inv .1) (c .ridge-entry .ensures))
+
+same-length : tie.Need-same-length Inv-loop μ-loop
+same-length c = c .before .loop .inv .1 .long
+
+returns : tie.Need-returns Inv-loop μ-loop
+returns c = let end = c .before .loop in wrote-end _ _ (end .c) _ _ _ _ (end .inv .1) (omega arith) (omega arith)
+
+pub ridge-row-spec : {M : Type 1} → statement M
+ridge-row-spec =
+    tie.close (tie.spec Inv-loop μ-loop loop-holds ridge-entry-requires add-s mul-s slice-write-s add-c loop-less loop-again same-length returns)

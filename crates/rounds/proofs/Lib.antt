@@ -1,0 +1,4 @@
+-- Laws that the proofs of the rounds share. Assumes nothing.
+pub mod Turns
+pub mod Rounds
+pub mod First

@@ -1,0 +1,83 @@
+-- The loop of the fits over the rule's states: what holds at its test, and what each way out of a turn gives. Assumes nothing.
+use mathlib.Core.Path.{_≡_, refl, sym, ap, _∙_, subst}
+use mathlib.Core.Logic.{_≢_}
+use mathlib.Core.List.{List, [], _∷_}
+use Prim.Native.Nat.{ℕ, suc, _+_, _<_, _≤_}
+use native.Mathlib.Nat.{le-antisymm}
+use native.Mathlib.Numerals.{add-one}
+use native.Mathlib.Omega.{arith}
+use borrow.Author.Tests.{eq-eqb, ne-eqb}
+use lib.Dec.{eqb}
+use lib.ListN.{length}
+use lib.Ieee.{Float}
+use Rattle.refusal.specs.Answers.{Solution, solved, refused}
+use Rattle.rule.specs.declared.Stop.{Stop}
+use Rattle.rule.specs.declared.Stop.the-variants.{Empty, RefitRefused, Settled, OutOfRounds}
+use Rattle.rule.specs.Rule.{Problem, State, going, done, latest, zeros, support, scatter, refit, look, round, rounds, finish, fit}
+use Rattle.rule.specs.Stable.{stays}
+use Rattle.refit.specs.Parts.{placed}
+use Rattle.rounds.specs.Ran.{CameTo}
+
+-- a solve that gave coefficients gave values, each put at its term
+pub record Placed (n w : ℕ) (s : Solution) (cs : List Float) : Type 0 where
+  pub values : List Float
+  pub solves : s ≡ solved values
+  pub puts : cs ≡ scatter n w values
+
+pub placed-solved : (n w : ℕ) (s : Solution) (cs : List Float) → solved cs ≡ placed n w s → Placed n w s cs
+placed-solved n w (solved vs) cs e = record { values = vs; solves = refl; puts = cc }
+placed-solved n w (refused c) cs e = let z : _≡_ {A = ℕ} 0 1 = cc in absurd (omega arith)
+
+pub placed-refused : (n w c : ℕ) (s : Solution) → refused c ≡ placed n w s → s ≡ refused c
+placed-refused n w c (solved vs) e = let z : _≡_ {A = ℕ} 0 1 = cc in absurd (omega arith)
+placed-refused n w c (refused d) e = sym e
+
+-- after r rounds the rule goes on, with these coefficients, this last support and this many refits
+pub record Going (P : Problem) (r : ℕ) (cs : List Float) (last k : ℕ) : Type 0 where
+  pub refitted : List ℕ
+  pub state : rounds P r ≡ going cs refitted
+  pub last-is : last ≡ latest refitted
+  pub count-is : k ≡ length refitted
+
+module _ (P : Problem) where
+  -- a state that is done is what the fit reports
+  pub ended : (m : ℕ) {t : Stop} {k : ℕ} {cs : List Float} (ws : List ℕ) → rounds P m ≡ done t cs ws → k ≡ length ws → CameTo P m t k cs
+  unfolding fit finish
+  ended m ws e i = record { refitted = ws; ends = ap (finish P) e; counts = i }
+
+  -- rounds used up
+  pub out-of-rounds : {r k last m : ℕ} {cs : List Float} → Going P r cs last k → r ≤ m → m ≤ r → CameTo P m OutOfRounds k cs
+  unfolding fit finish
+  out-of-rounds {k = k} {cs = cs} g h i =
+      subst (λ (x : ℕ). CameTo P x OutOfRounds k cs) (le-antisymm h i) (record { refitted = g .refitted; ends = ap (finish P) (g .state); counts = g .count-is })
+
+  -- a round that found the support w
+  module _ {r m k last : ℕ} {cs : List Float} (g : Going P r cs last k) (l : r < m) (w : ℕ) (s : w ≡ support P cs) where
+    turn : rounds P (suc r) ≡ look P cs (g .refitted) w
+    unfolding rounds round
+    turn = ap (round P) (g .state) ∙ ap (look P cs (g .refitted)) (sym s)
+
+    pub out-empty : {x : List Float} → w ≡ 0 → x ≡ zeros (P .cols) → CameTo P m Empty k x
+    unfolding look
+    out-empty z e = ended m (g .refitted) (stays P (suc r) m (turn ∙ rw (eq-eqb w 0 z, e)) l) (g .count-is)
+
+    pub out-settled : w ≢ 0 → w ≡ last → CameTo P m Settled k cs
+    unfolding look
+    out-settled z e = ended m (g .refitted) (stays P (suc r) m (turn ∙ rw (ne-eqb w 0 z, eq-eqb w (latest (g .refitted)) (e ∙ g .last-is))) l) (g .count-is)
+
+    solving : w ≢ 0 → w ≢ last → rounds P (suc r) ≡ refit P (g .refitted) w (P .solve w)
+    unfolding look
+    solving z e = turn ∙ rw (ne-eqb w 0 z, ne-eqb w (latest (g .refitted)) (λ q. e (q ∙ sym (g .last-is))))
+
+    pub out-refused : {x : List Float} → w ≢ 0 → w ≢ last → (c : ℕ) → P .solve w ≡ refused c → x ≡ zeros (P .cols) → CameTo P m RefitRefused (k + 1) x
+    unfolding refit
+    out-refused z e c q i = ended m (w ∷ g .refitted) (stays P (suc r) m (solving z e ∙ rw (q, i)) l) (add-one k ∙ ap suc (g .count-is))
+
+    pub again : {x : List Float} → w ≢ 0 → w ≢ last → Placed (P .cols) w (P .solve w) x → Going P (r + 1) x w (k + 1)
+    unfolding refit
+    again z e p = record {
+      refitted = w ∷ g .refitted;
+      state = ap (rounds P) (add-one r) ∙ solving z e ∙ rw (p .solves, p .puts);
+      last-is = refl;
+      count-is = add-one k ∙ ap suc (g .count-is);
+    }

@@ -1,0 +1,2 @@
+-- What the rounds of a fit promise. Assumes nothing.
+pub mod Ran
