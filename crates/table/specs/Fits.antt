@@ -1,4 +1,4 @@
--- Document 01's cases of the fits, by computing. The F cases are of `strlsq`.
+-- The words for a case of a fit, and the cases that catch what the marked ones let through, F8 among them. All by computing. Assumes nothing.
 use Prim.Native.Nat.{ℕ}
 use mathlib.Core.Path.{_≡_, refl}
 use mathlib.Core.List.{List, [], _∷_}
@@ -25,53 +25,25 @@ unfolding opened ones W.has W.count W.word W.terms W.place W.term
     F.keeps F.clears F.by-sums F.by-normal F.augmented F.padded F.by-least F.solves F.problem F.fit-by
 fits = tt
 
-abbrev half : Float
+abbrev pub half : Float
 half = lit 0x3fe0000000000000
 
 -- a fit of a matrix that is stored by rows
-abbrev of : Solver → List Float → List Float → ℕ → ℕ → Setup → Fit
+abbrev pub of : Solver → List Float → List Float → ℕ → ℕ → Setup → Fit
 of solver theta target rows n s = F.fit-by solver (cell n theta) (at target) rows n s
 
-abbrev setup : Float → Float → ℕ → Setup
+abbrev pub setup : Float → Float → ℕ → Setup
 setup t l m = record { threshold = t; lambda = l; «max_iter» = m }
 
-abbrev gives : List Float → Stop → ℕ → ℕ → Fit
+abbrev pub gives : List Float → Stop → ℕ → ℕ → Fit
 gives cs t r k = record { coeffs = cs; stop = t; refits = r; kept = k }
 
 -- F1's matrix and target
-abbrev theta1 : List Float
+abbrev pub theta1 : List Float
 theta1 = one ∷ +zero ∷ +zero ∷ one ∷ []
 
-abbrev target1 : List Float
+abbrev pub target1 : List Float
 target1 = three ∷ lit 0x3fd0000000000000 ∷ []
-
-pub F1 : of Normal theta1 target1 2 2 (setup half +zero 10) ≡ gives (three ∷ +zero ∷ []) Settled 1 1
-unfolding fits
-F1 = refl
-
-pub F2 : of Normal theta1 target1 2 2 (setup half +zero 0) ≡ gives (three ∷ +zero ∷ []) OutOfRounds 0 1
-unfolding fits
-F2 = refl
-
-pub F3 : of Normal theta1 target1 2 2 (setup half +zero 1) ≡ gives (three ∷ +zero ∷ []) OutOfRounds 1 1
-unfolding fits
-F3 = refl
-
-pub F4 : of Normal theta1 target1 2 2 (setup four +zero 10) ≡ gives (+zero ∷ +zero ∷ []) Empty 0 0
-unfolding fits
-F4 = refl
-
-pub F5 : of Normal (+zero ∷ []) (one ∷ []) 1 1 (setup half +zero 1) ≡ gives (+zero ∷ []) FirstRefused 0 0
-unfolding fits
-F5 = refl
-
-pub F6 : of Normal (one ∷ []) (half ∷ []) 1 1 (setup half +zero 2) ≡ gives (half ∷ []) Settled 1 1
-unfolding fits
-F6 = refl
-
-pub F7 : of Normal (+zero ∷ []) (one ∷ []) 1 1 (setup +zero -one 0) ≡ gives (-zero ∷ []) OutOfRounds 0 1
-unfolding fits
-F7 = refl
 
 pub F8-none : of Normal (one ∷ []) (nan ∷ []) 1 1 (setup half +zero 0) ≡ gives (nan ∷ []) OutOfRounds 0 0
 unfolding fits

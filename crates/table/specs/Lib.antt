@@ -1,3 +1,4 @@
--- The table of document 01: the solvers, the fits; R1 to R5 stand in float64. Assumes nothing.
+-- The table of document 01: `Marked` its marked cases, the others those that catch what these let through. Assumes nothing.
 pub mod Solvers
 pub mod Fits
+pub mod Marked

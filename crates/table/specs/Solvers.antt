@@ -1,4 +1,4 @@
--- Document 01's cases of the solvers, and those that catch what its marked ones let through. All by computing.
+-- The cases of the solvers that catch what the marked ones let through, C1 and C2 among them. All by computing. Assumes nothing.
 use Prim.Native.Nat.{ℕ}
 use mathlib.Core.Path.{_≡_, refl}
 use mathlib.Core.List.{List, [], _∷_}
@@ -32,25 +32,11 @@ opened = tt
 abbrev pub three : Float
 three = lit 0x4008000000000000
 
-abbrev pub four : Float
-four = lit 0x4010000000000000
-
-abbrev five : Float
+abbrev pub five : Float
 five = lit 0x4014000000000000
 
--- L1: LU of rows (1,2), (-1,3), b (1,4)
-pub L1 : U.lu 2 (one ∷ two ∷ -one ∷ three ∷ []) (one ∷ four ∷ []) ≡ going ((one ∷ two ∷ -one ∷ five ∷ []), (-one ∷ one ∷ []))
-unfolding opened
-L1 = refl
-
--- Q1: `qr` of the column (-0.0, 1)
-pub Q1 : Q.after 2 1 (-zero ∷ one ∷ []) 1 ≡ -one ∷ one ∷ []
-unfolding opened
-Q1 = refl
-
-pub Q1-beta : Q.betas 2 1 (-zero ∷ one ∷ []) ≡ one ∷ []
-unfolding opened
-Q1-beta = refl
+abbrev pub four : Float
+four = lit 0x4010000000000000
 
 -- C1: Cholesky of 1e-14 refuses, of the next number up does not
 pub C1 : C.chol-factor 1 (N.1e-14 ∷ []) ≡ stopped 0 (N.1e-14 ∷ [])
