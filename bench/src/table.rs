@@ -4,6 +4,7 @@ use crate::calls::Call;
 use crate::data::Data;
 use crate::machine;
 use crate::measure::Times;
+use std::env::consts::ARCH;
 use std::fs;
 use std::io;
 use std::path::Path;
@@ -76,21 +77,21 @@ pub fn text(rows: &[Row]) -> String {
     format!("{}\n\n{head}{body}", machine::line())
 }
 
-const BEGIN: &str = "<!-- table -->\n";
 const END: &str = "<!-- end of table -->\n";
 
-/// Puts the table into the README, between its marks.
+/// Puts the table into the README, between the marks of this kind of processor.
 pub fn write(text: &str) -> io::Result<()> {
     let path = Path::new(env!("CARGO_MANIFEST_DIR")).join("README.md");
     let readme = fs::read_to_string(&path)?;
-    let parts = readme.split_once(BEGIN).and_then(|(before, rest)| {
+    let begin = format!("<!-- table of {} -->\n", ARCH);
+    let parts = readme.split_once(&begin).and_then(|(before, rest)| {
         let (_, after) = rest.split_once(END)?;
         Some((before, after))
     });
     let Some((before, after)) = parts else {
-        return Err(io::Error::other(
-            "bench/README.md has lost the marks of its table",
-        ));
+        return Err(io::Error::other(format!(
+            "bench/README.md has no table of {ARCH} to write into"
+        )));
     };
-    fs::write(&path, format!("{before}{BEGIN}\n{text}\n{END}{after}"))
+    fs::write(&path, format!("{before}{begin}\n{text}\n{END}{after}"))
 }

@@ -1,5 +1,5 @@
-//! Links the static library: `DAPMOTAR_LIB`, or `target/staticlib/libcapi.a`; a relative path is seen from the
-//! repository's top.
+//! Links the static library: `DAPMOTAR_LIB`, or where `rt staticlib capi` (x86-64) and `tools/native-staticlib` (elsewhere) write it;
+//! a relative path is seen from the repository's top.
 
 use std::env;
 use std::path::PathBuf;
@@ -15,12 +15,16 @@ fn main() {
         .ancestors()
         .nth(2)
         .expect("bindings/rust stands in the repository");
-    let given = env::var_os("DAPMOTAR_LIB").unwrap_or_else(|| "target/staticlib/libcapi.a".into());
+    let (usual, maker) = match env::var("CARGO_CFG_TARGET_ARCH").as_deref() {
+        Ok("x86_64") => ("target/staticlib/libcapi.a", "rt staticlib capi"),
+        _ => ("target/native/libcapi.a", "tools/native-staticlib"),
+    };
+    let given = env::var_os("DAPMOTAR_LIB").unwrap_or_else(|| usual.into());
     let archive = top.join(given);
     println!("cargo::rerun-if-changed={}", archive.display());
     assert!(
         archive.is_file(),
-        "no {}: make it with `rt staticlib capi`, or set DAPMOTAR_LIB",
+        "no {}: make it with `{maker}`, or set DAPMOTAR_LIB",
         archive.display()
     );
     let folder = archive.parent().expect("a file stands in a folder");

@@ -60,7 +60,7 @@ fn digits_of(z: f64) -> u64
 }
 
 // A guess at the nearest whole number to the root of s * 2 ^ 52, where b is the pattern of s / 2 ^ 52. Nothing is claimed of how near it
-// is: `nearest` tests it, and where it fails, some 3 times in a million, the digits are found one by one.
+// is: `nearest` tests it, and where it fails, some once in a thousand, the digits are found one by one.
 fn guess(b: u64) -> u64
     requires { ⌜ 0x3ff0_0000_0000_0000 ≤ b ⌝ ∗ ⌜ b < 0x4010_0000_0000_0000 ⌝ }
     ensures { λ r. ⌜ 2 ^ 52 ≤ r ⌝ ∗ ⌜ r < 2 ^ 53 ⌝ }
@@ -75,10 +75,12 @@ fn guess(b: u64) -> u64
     let k1 = 1.500000579296 - y1 * p1;
     let p2 = p1 * k1;
     let y2 = y1 * k1;
-    let y = y2 * (1.5 - y2 * p2);
-    // a has so few digits that its square is exact, and so is f less that square; a root that seems midway, just above a power of 4, is below
-    let a = (y + 201326592.0) - 201326592.0;
-    digits_of(a + ((f - a * a) / (y + a) - 1e-22))
+    // a has so few digits that its square is exact: what f is more than y2 * y2, times w, which is near 1 / (root + y2), is what y2 lacks; a root that
+    // seems midway, just above a power of 4, is below
+    let a = (y2 + 201326592.0) - 201326592.0;
+    let more = (f - a * a) - (y2 - a) * (y2 + a);
+    let w = p2 * (1.75 - 1.5 * (y2 * p2));
+    digits_of(y2 + (more * w - 1e-22))
 }
 
 // Whether m is the nearest whole number to the root of s * 2 ^ 52: whether s * 2 ^ 52 - m * m is more than -m and at most m. With a and b for m's halves of
