@@ -162,26 +162,10 @@ pub fn strlsq(
     coeffs: &mut [f64],
     workspace: &mut [f64],
 ) -> Result<Report, Refusal> {
-    let mut report = [0; 3];
-    Refusal::answer(unsafe {
-        raw::dapmotar_strlsq(
-            theta.as_ptr(),
-            theta.len(),
-            n_rows,
-            n_cols,
-            target.as_ptr(),
-            target.len(),
-            setup.threshold,
-            setup.lambda,
-            setup.max_iter,
-            coeffs.as_mut_ptr(),
-            coeffs.len(),
-            workspace.as_mut_ptr(),
-            workspace.len(),
-            &mut report,
-        )
-    })?;
-    Ok(Report::from_words(report))
+    let call = raw::dapmotar_strlsq;
+    fit(
+        call, theta, n_rows, n_cols, target, setup, coeffs, workspace,
+    )
 }
 
 /// The fit by QR: as [`strlsq`], with [`strlsq_qr_workspace`] numbers of workspace. Refuses 1 to 7.
@@ -194,9 +178,26 @@ pub fn strlsq_qr(
     coeffs: &mut [f64],
     workspace: &mut [f64],
 ) -> Result<Report, Refusal> {
+    let call = raw::dapmotar_strlsq_qr;
+    fit(
+        call, theta, n_rows, n_cols, target, setup, coeffs, workspace,
+    )
+}
+
+#[allow(clippy::too_many_arguments)]
+fn fit(
+    call: raw::Fit,
+    theta: &[f64],
+    n_rows: usize,
+    n_cols: usize,
+    target: &[f64],
+    setup: Setup,
+    coeffs: &mut [f64],
+    workspace: &mut [f64],
+) -> Result<Report, Refusal> {
     let mut report = [0; 3];
     Refusal::answer(unsafe {
-        raw::dapmotar_strlsq_qr(
+        call(
             theta.as_ptr(),
             theta.len(),
             n_rows,

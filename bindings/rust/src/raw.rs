@@ -1,6 +1,24 @@
 //! The exports of the static library, as include/dapmotar.h declares them. A slice is a pointer and a length; a
 //! null pointer with length 0 is an empty slice.
 
+/// Either fit.
+pub type Fit = unsafe extern "C" fn(
+    theta: *const f64,
+    theta_len: usize,
+    n_rows: usize,
+    n_cols: usize,
+    target: *const f64,
+    target_len: usize,
+    threshold: f64,
+    lambda: f64,
+    max_iter: usize,
+    coeffs: *mut f64,
+    coeffs_len: usize,
+    workspace: *mut f64,
+    workspace_len: usize,
+    report: *mut [u64; 3],
+) -> u64;
+
 unsafe extern "C" {
     pub safe fn dapmotar_sqrt(x: f64) -> f64;
 

@@ -6,6 +6,7 @@ ghost use mathlib.Core.Bool.{true};
 ghost use Prim.Native.Nat.{ℕ, _+_, _*_, _^_, _≤_, _<_};
 ghost use Rattle.float64.specs.Rule.{unitsOf};
 ghost use Rattle.float64.specs.Parts.{Whole, Halved, Widened, Rooted};
+use std::num::wrapping_sub_u64;
 
 // Digits and a scale, sig * 2 ^ exp.
 struct Scaled(u64, u64);
@@ -85,32 +86,23 @@ fn guess(b: u64) -> u64
 
 // Whether m is the nearest whole number to the root of s * 2 ^ 52: whether s * 2 ^ 52 - m * m is more than -m and at most m. With a and b for m's halves of
 // 27 digits, a * a * 2 ^ 54, a * b * 2 ^ 28 and b * b are taken off in turn; 2 ^ 54 is added before the last, which may leave less than nothing. The answer
-// is also no where what is left is below zero or too large to go on with: then the guess was far off, or a * b is nothing.
+// is also no where what is left is below zero, which wraps, or too large to go on with: then the guess was far off, or a * b is nothing.
 fn nearest(s: u64, m: u64) -> bool
     requires { ⌜ s < 2 ^ 54 ⌝ ∗ ⌜ 2 ^ 52 ≤ m ⌝ ∗ ⌜ m < 2 ^ 53 ⌝ }
     ensures { λ r. ⌜ (r ≡ true → Halved s m) ⌝ }
 {
     let a = m / 0x800_0000;
     let b = m % 0x800_0000;
-    let high = a * a * 4;
-    let cross = a * b;
-    let low = b * b + 0x40_0000_0000_0000;
-    if s < high {
-        return false;
-    }
-    let t = s - high;
+    let t = wrapping_sub_u64(s, a * a * 4);
     if t >= 0x10_0000_0000 {
         return false;
     }
-    let u = t * 0x100_0000 + 0x400_0000;
-    if u < cross {
-        return false;
-    }
-    let v = u - cross;
+    let v = wrapping_sub_u64(t * 0x100_0000 + 0x400_0000, a * b);
     if v >= 0x8_0000_0000 {
         return false;
     }
     let e = v * 0x1000_0000;
+    let low = b * b + 0x40_0000_0000_0000;
     if low >= e + m {
         return false;
     }

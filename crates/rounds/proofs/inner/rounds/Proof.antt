@@ -1,9 +1,11 @@
 -- `rounds` meets its contract. The loop's invariant: after this many rounds the rule goes on, with these coefficients, this last support and this many refits.
 use mathlib.Core.Path.{_≡_, refl, sym, ap, _∙_}
-use mathlib.Core.List.{[]}
+use mathlib.Core.List.{List, []}
+use mathlib.Core.Logic.{_≢_}
 use Prim.Native.Nat.{ℕ, _+_, _-_, _≤_, _<_, _^_}
 use native.Mathlib.Omega.{arith}
 use lib.ListN.{length}
+use lib.Ieee.{Float}
 use borrow.Author.Needs.{needs}
 use denote.Ref.{now}
 use Rattle.rule.specs.Rule.{rounds}
@@ -21,20 +23,61 @@ Inv-loop solver theta n-rows n-cols target setup coeffs₀ ws₀ last₀ refits�
 abbrev μ-loop : tie.MeasureT-loop
 μ-loop solver theta n-rows n-cols target setup coeffs₀ ws₀ last₀ refits₀ round₀ round-end coeffs ws last refits round = round-end - round
 
+-- a turn: its round is one of those allowed, and the coefficients are as many as the columns
+module _ (c : tie.In-loop Inv-loop μ-loop) where
+  abbrev start : tie.Start Inv-loop μ-loop
+  start = c .before .before .before .before .before .before .before
+
+  in-limit : c .before .loop .round < start .args .setup .«max_iter»
+  in-limit = omega (arith, c .loop-test .taken, c .before .loop .inv .0)
+
+  long : length (c .before .loop .coeffs) ≡ start .args .n-cols
+  long = c .before .loop .inv .3 ∙ start .pre .1
+
+-- after the first test: a support that is not empty
+module _ (c : tie.Else1 Inv-loop μ-loop) where
+  abbrev looked : tie.After-support-of Inv-loop μ-loop
+  looked = c .before .before .before
+
+  abbrev top : tie.In-loop Inv-loop μ-loop
+  top = looked .before .before
+
+  not-empty : looked .support-of .result .0 ≢ 0
+  not-empty = tested-no _ _ 0 (c .before .same .ensures) (c .before .before .empty2 .ensures) (c .if1 .left)
+
+-- after the second: nor the last one
+module _ (c : tie.Else2 Inv-loop μ-loop) where
+  abbrev some : tie.Else1 Inv-loop μ-loop
+  some = c .before .before
+
+  not-last : looked some .support-of .result .0 ≢ top some .before .loop .last .0
+  not-last = tested-no _ _ _ (c .before .same2 .ensures) refl (c .if2 .left)
+
+-- after the solve: the slices are as long as they were
+module _ (c : tie.After-solve-terms Inv-loop μ-loop) where
+  abbrev other : tie.Else2 Inv-loop μ-loop
+  other = c .before .before .before
+
+  abbrev turn : tie.In-loop Inv-loop μ-loop
+  turn = top (some other)
+
+  abbrev new-coeffs : List Float
+  new-coeffs = c .solve-terms .last .1 .1 .1 .1 .1 .1 .1 .0
+
+  coeffs-kept : length new-coeffs ≡ length (turn .before .loop .coeffs)
+  coeffs-kept = c .solve-terms .kept .1 .1 .1 .1 .1 .1 .1 .0
+
 empty-requires : tie.Need-empty-requires Inv-loop μ-loop
 empty-requires c κs = search needs
 
 loop-holds : tie.Need-loop-holds Inv-loop μ-loop
 unfolding rounds
 loop-holds c =
-    let start = c .before .before .before .before .before in
-    (refl, omega arith, refl, refl, refl, record { refitted = []; state = start .pre .4; last-is = c .empty .ensures; count-is = refl })
+    let begin = c .before .before .before .before .before in
+    (refl, omega arith, refl, refl, refl, record { refitted = []; state = begin .pre .4; last-is = c .empty .ensures; count-is = refl })
 
 support-of-requires : tie.Need-support-of-requires Inv-loop μ-loop
-support-of-requires c κs =
-    let at-loop = c .before .before in
-    let start = at-loop .before .before .before .before .before .before in
-    let sized = start .pre .0 in omega (arith, at-loop .loop .inv .3, start .pre .1, sized .cols)
+support-of-requires c κs = omega (arith, long (c .before), start (c .before) .pre .0 .cols)
 
 empty-requires-2 : tie.Need-empty-requires-2 Inv-loop μ-loop
 empty-requires-2 c κs = search needs
@@ -44,9 +87,8 @@ same-requires c κs = search needs
 
 clear-requires : tie.Need-clear-requires Inv-loop μ-loop
 clear-requires c κs =
-    let at-loop = c .before .before .before .before .before .before .before in
-    let start = at-loop .before .before .before .before .before .before in
-    let sized = start .pre .0 in omega (arith, at-loop .loop .inv .3, start .pre .1)
+    let in-turn = c .before .before .before .before .before .before in
+    omega (arith, long in-turn)
 
 same-length : tie.Need-same-length Inv-loop μ-loop
 same-length c =
@@ -60,60 +102,41 @@ same-length-2 c = c .before .before .before .before .before .before .before .bef
 returns : tie.Need-returns Inv-loop μ-loop
 returns c =
     let at-clear = c .before .before in
-    let at-if1 = at-clear .before .before in
-    let at-same = at-if1 .before in
-    let at-empty2 = at-same .before in
-    let at-support-of = at-empty2 .before in
-    let at-loop-test = at-support-of .before .before in
-    let at-loop = at-loop-test .before in
-    let start = at-loop .before .before .before .before .before .before in
-    let turn = at-loop .loop in
-    let a = start .args in
-    let l : turn .round < a .setup .«max_iter» = omega (arith, at-loop-test .loop-test .taken, turn .inv .0) in
-    turn-empty (a .solver) (a .setup) (now (a .theta)) (now (a .target)) (a .n-rows) (a .n-cols) (turn .inv .5) l (turn .inv .3 ∙ start .pre .1)
-    _ (at-support-of .support-of .ensures) (tested-yes _ _ 0 (at-same .same .ensures) (at-empty2 .empty2 .ensures) (at-if1 .if1 .taken)) (at-clear .clear .ensures)
+    let empty = at-clear .before .before in
+    let at-look = empty .before .before .before in
+    let in-turn = at-look .before .before in
+    let a = start in-turn .args in
+    turn-empty (a .solver) (a .setup) (now (a .theta)) (now (a .target)) (a .n-rows) (a .n-cols) (in-turn .before .loop .inv .5) (in-limit in-turn) (long in-turn)
+    _ (at-look .support-of .ensures) (tested-yes _ _ 0 (empty .before .same .ensures) (empty .before .before .empty2 .ensures) (empty .if1 .taken)) (at-clear .clear .ensures)
 
 same-requires-2 : tie.Need-same-requires-2 Inv-loop μ-loop
 same-requires-2 c κs = search needs
 
 same-length-3 : tie.Need-same-length-3 Inv-loop μ-loop
-same-length-3 c = c .before .before .before .before .before .before .before .before .loop .inv .3
+same-length-3 c = top (c .before .before) .before .loop .inv .3
 
 same-length-4 : tie.Need-same-length-4 Inv-loop μ-loop
-same-length-4 c = c .before .before .before .before .before .before .before .before .loop .inv .4
+same-length-4 c = top (c .before .before) .before .loop .inv .4
 
 returns-2 : tie.Need-returns-2 Inv-loop μ-loop
 returns-2 c =
-    let at-same2 = c .before in
-    let at-if1 = at-same2 .before in
-    let at-same = at-if1 .before in
-    let at-empty2 = at-same .before in
-    let at-support-of = at-empty2 .before in
-    let at-loop-test = at-support-of .before .before in
-    let at-loop = at-loop-test .before in
-    let start = at-loop .before .before .before .before .before .before in
-    let turn = at-loop .loop in
-    let a = start .args in
-    let l : turn .round < a .setup .«max_iter» = omega (arith, at-loop-test .loop-test .taken, turn .inv .0) in
-    turn-settled (a .solver) (a .setup) (now (a .theta)) (now (a .target)) (a .n-rows) (a .n-cols) (turn .inv .5) l (turn .inv .3 ∙ start .pre .1)
-    _ (at-support-of .support-of .ensures) (tested-no _ _ 0 (at-same .same .ensures) (at-empty2 .empty2 .ensures) (at-if1 .if1 .left)) (tested-yes _ _ _ (at-same2 .same2 .ensures) refl (c .if2 .taken))
+    let found = c .before .before in
+    let in-turn = top found in
+    let a = start in-turn .args in
+    turn-settled (a .solver) (a .setup) (now (a .theta)) (now (a .target)) (a .n-rows) (a .n-cols) (in-turn .before .loop .inv .5) (in-limit in-turn) (long in-turn)
+    _ (looked found .support-of .ensures) (not-empty found) (tested-yes _ _ _ (c .before .same2 .ensures) refl (c .if2 .taken))
 
 add-refits : tie.Need-add-refits Inv-loop μ-loop
 add-refits c =
-    let at-loop-test = c .before .before .before .before .before .before .before in
-    let at-loop = at-loop-test .before in
-    let start = at-loop .before .before .before .before .before .before in
-    let turn = at-loop .loop in omega (arith, turn .inv .2, turn .inv .0, at-loop-test .loop-test .taken, start .pre .3)
+    let in-turn = top (some c) in
+    omega (arith, in-turn .before .loop .inv .2, in-limit in-turn, start in-turn .pre .3)
 
 solve-terms-requires : tie.Need-solve-terms-requires Inv-loop μ-loop
 solve-terms-requires c κs =
-    let at-support-of = c .before .before .before .before .before .before .before in
-    let at-loop = at-support-of .before .before .before in
-    let start = at-loop .before .before .before .before .before .before in
-    let turn = at-loop .loop in
-    let sized = start .pre .0 in
-    let long = turn .inv .3 ∙ start .pre .1 in
-    (sized, long, support-fits _ _ _ (turn .coeffs) (at-support-of .support-of .ensures) long, turn .inv .4 ∙ start .pre .2)
+    let found = some (c .before .before) in
+    let in-turn = top found in
+    let begin = start in-turn in
+    (begin .pre .0, long in-turn, support-fits _ _ _ (in-turn .before .loop .coeffs) (looked found .support-of .ensures) (long in-turn), in-turn .before .loop .inv .4 ∙ begin .pre .2)
 
 enum-told : tie.Need-enum-told Inv-loop μ-loop
 enum-told c = search needs
@@ -123,86 +146,55 @@ enum-told-2 c = search needs
 
 clear-requires-2 : tie.Need-clear-requires-2 Inv-loop μ-loop
 clear-requires-2 c κs =
-    let at-solve-terms = c .before .before .before .before .before .before .before in
-    let at-loop = at-solve-terms .before .before .before .before .before .before .before .before .before .before .before in
-    let start = at-loop .before .before .before .before .before .before in
-    let sized = start .pre .0 in omega (arith, at-solve-terms .solve-terms .kept .1 .1 .1 .1 .1 .1 .1 .0, at-loop .loop .inv .3, start .pre .1)
+    let solved = c .before .before .before .before .before .before .before in
+    omega (arith, coeffs-kept solved, long (turn solved))
 
 same-length-5 : tie.Need-same-length-5 Inv-loop μ-loop
 same-length-5 c =
-    let at-clear2 = c .before .before in
-    let at-solve-terms = at-clear2 .before .before .before .before .before .before .before .before in
-    let at-loop = at-solve-terms .before .before .before .before .before .before .before .before .before .before .before in
-    at-clear2 .clear2 .kept .0 ∙ at-solve-terms .solve-terms .kept .1 .1 .1 .1 .1 .1 .1 .0 ∙ at-loop .loop .inv .3
+    let at-clear = c .before .before in
+    let solved = at-clear .before .before .before .before .before .before .before .before in
+    at-clear .clear2 .kept .0 ∙ coeffs-kept solved ∙ turn solved .before .loop .inv .3
 
 same-length-6 : tie.Need-same-length-6 Inv-loop μ-loop
 same-length-6 c =
-    let at-solve-terms = c .before .before .before .before .before .before .before .before .before .before in
-    let at-loop = at-solve-terms .before .before .before .before .before .before .before .before .before .before .before in
-    at-solve-terms .solve-terms .kept .1 .1 .1 .1 .1 .1 .1 .1 .0 ∙ at-loop .loop .inv .4
+    let solved = c .before .before .before .before .before .before .before .before .before .before in
+    solved .solve-terms .kept .1 .1 .1 .1 .1 .1 .1 .1 .0 ∙ turn solved .before .loop .inv .4
 
 returns-3 : tie.Need-returns-3 Inv-loop μ-loop
 returns-3 c =
-    let at-clear2 = c .before .before in
-    let at-enum-told2 = at-clear2 .before .before in
-    let at-solve-terms = at-enum-told2 .before .before .before .before .before .before in
-    let at-if2 = at-solve-terms .before .before .before in
-    let at-same2 = at-if2 .before in
-    let at-if1 = at-same2 .before in
-    let at-same = at-if1 .before in
-    let at-empty2 = at-same .before in
-    let at-support-of = at-empty2 .before in
-    let at-loop-test = at-support-of .before .before in
-    let at-loop = at-loop-test .before in
-    let start = at-loop .before .before .before .before .before .before in
-    let turn = at-loop .loop in
-    let a = start .args in
-    let told = at-enum-told2 .enum-told2 .given in
-    let solve = at-solve-terms .solve-terms in
-    let not-empty = tested-no _ _ 0 (at-same .same .ensures) (at-empty2 .empty2 .ensures) (at-if1 .if1 .left) in
-    let not-last = tested-no _ _ _ (at-same2 .same2 .ensures) refl (at-if2 .if2 .left) in
-    let long = turn .inv .3 ∙ start .pre .1 in
-    let l : turn .round < a .setup .«max_iter» = omega (arith, at-loop-test .loop-test .taken, turn .inv .0) in
-    turn-refused (a .solver) (a .setup) (now (a .theta)) (now (a .target)) (a .n-rows) (a .n-cols) (turn .inv .5) l long
-    _ (at-support-of .support-of .ensures) (solve .result) (told .0 .0) _ (solve .last .1 .1 .1 .1 .1 .1 .1 .0) not-empty not-last (told .1) (solve .ensures) (solve .kept .1 .1 .1 .1 .1 .1 .1 .0 ∙ long) (at-clear2 .clear2 .ensures)
+    let at-clear = c .before .before in
+    let told = at-clear .before .before .enum-told2 .given in
+    let solved = at-clear .before .before .before .before .before .before .before .before in
+    let found = some (other solved) in
+    let in-turn = turn solved in
+    let a = start in-turn .args in
+    turn-refused (a .solver) (a .setup) (now (a .theta)) (now (a .target)) (a .n-rows) (a .n-cols) (in-turn .before .loop .inv .5) (in-limit in-turn) (long in-turn)
+    _ (looked found .support-of .ensures) (solved .solve-terms .result) (told .0 .0) _ (new-coeffs solved) (not-empty found) (not-last (other solved))
+    (told .1) (solved .solve-terms .ensures) (coeffs-kept solved ∙ long in-turn) (at-clear .clear2 .ensures)
 
 add-round : tie.Need-add-round Inv-loop μ-loop
 add-round c =
-    let at-loop-test = c .before .before .before .before .before .before .before .before .before .before .before .before .before .before .before .before in
-    let at-loop = at-loop-test .before in
-    let start = at-loop .before .before .before .before .before .before in
-    let turn = at-loop .loop in omega (arith, turn .inv .0, at-loop-test .loop-test .taken, start .pre .3)
+    let in-turn = c .before .before .before .before .before .before .before .before .before .before .before .before .before .before .before .before in
+    omega (arith, in-limit in-turn, start in-turn .pre .3)
 
 loop-less : tie.Need-loop-less Inv-loop μ-loop
-loop-less c = omega (arith, c .before .before .before .before .before .before .before .before .before .before .before .before .before .before .before .before .loop-test .taken)
+loop-less c =
+    let in-turn = c .before .before .before .before .before .before .before .before .before .before .before .before .before .before .before .before in
+    omega (arith, in-turn .loop-test .taken)
 
 loop-again : tie.Need-loop-again Inv-loop μ-loop
 loop-again c =
-    let at-solve-terms = c .before .before .before .before .before .before in
-    let at-if2 = at-solve-terms .before .before .before in
-    let at-same2 = at-if2 .before in
-    let at-if1 = at-same2 .before in
-    let at-same = at-if1 .before in
-    let at-empty2 = at-same .before in
-    let at-support-of = at-empty2 .before in
-    let at-loop-test = at-support-of .before .before in
-    let at-loop = at-loop-test .before in
-    let start = at-loop .before .before .before .before .before .before in
-    let turn = at-loop .loop in
-    let a = start .args in
-    let told = c .enum-told .given in
-    let solve = at-solve-terms .solve-terms in
-    let not-empty = tested-no _ _ 0 (at-same .same .ensures) (at-empty2 .empty2 .ensures) (at-if1 .if1 .left) in
-    let not-last = tested-no _ _ _ (at-same2 .same2 .ensures) refl (at-if2 .if2 .left) in
-    let long = turn .inv .3 ∙ start .pre .1 in
-    let l : turn .round < a .setup .«max_iter» = omega (arith, at-loop-test .loop-test .taken, turn .inv .0) in (
-      turn .inv .0,
-      omega (arith, at-loop-test .loop-test .taken),
-      ap (λ (x : ℕ). x + 1) (turn .inv .2),
-      at-solve-terms .solve-terms .kept .1 .1 .1 .1 .1 .1 .1 .0 ∙ turn .inv .3,
-      at-solve-terms .solve-terms .kept .1 .1 .1 .1 .1 .1 .1 .1 .0 ∙ turn .inv .4,
-      turn-again (a .solver) (a .setup) (now (a .theta)) (now (a .target)) (a .n-rows) (a .n-cols) (turn .inv .5) l long
-          _ (at-support-of .support-of .ensures) (solve .result) (solve .last .1 .1 .1 .1 .1 .1 .1 .0) not-empty not-last (told .1) (solve .ensures),
+    let solved = c .before .before .before .before .before .before in
+    let found = some (other solved) in
+    let in-turn = turn solved in
+    let a = start in-turn .args in (
+      in-turn .before .loop .inv .0,
+      omega (arith, in-turn .loop-test .taken),
+      ap (λ (x : ℕ). x + 1) (in-turn .before .loop .inv .2),
+      coeffs-kept solved ∙ in-turn .before .loop .inv .3,
+      solved .solve-terms .kept .1 .1 .1 .1 .1 .1 .1 .1 .0 ∙ in-turn .before .loop .inv .4,
+      turn-again (a .solver) (a .setup) (now (a .theta)) (now (a .target)) (a .n-rows) (a .n-cols) (in-turn .before .loop .inv .5) (in-limit in-turn) (long in-turn)
+          _ (looked found .support-of .ensures) (solved .solve-terms .result) (new-coeffs solved) (not-empty found) (not-last (other solved)) (c .enum-told .given .1) (solved .solve-terms .ensures),
     )
 
 same-length-7 : tie.Need-same-length-7 Inv-loop μ-loop
@@ -213,8 +205,8 @@ same-length-8 c = c .before .loop .inv .4
 
 returns-4 : tie.Need-returns-4 Inv-loop μ-loop
 returns-4 c =
-    let turn = c .before .loop in
-    out-of-rounds _ (turn .inv .5) (omega (arith, turn .inv .0)) (omega (arith, turn .inv .0))
+    let end = c .before .loop in
+    out-of-rounds _ (end .inv .5) (omega (arith, end .inv .0)) (omega (arith, end .inv .0))
 
 pub rounds-spec : {M : Type 1} → statement M
 rounds-spec =
