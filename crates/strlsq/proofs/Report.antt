@@ -42,10 +42,10 @@ reports solver setup theta target rows n stop refits kept cs cs' l l' r p k =
     }
 
 -- a refusal leaves all unchanged
-pub fit-refused : (solver : Solver) (theta target : List Float) (rows n : ℕ) (setup : Setup) (cs ws : List Float) (w : Refusal)
+pub fit-refused : {solver : Solver} {theta target : List Float} {rows n : ℕ} {setup : Setup} {cs ws : List Float} {w : Refusal}
     → fit-sizes solver rows n (setup .«max_iter») (length theta) (length target) (length cs) (length ws) ≡ A.Refused w
     → FitCall solver theta target rows n setup cs cs ws ws (F.Refused w)
-fit-refused solver theta target rows n setup cs ws w e = record { answer = rw e; coeffs = rw e; space = rw e }
+fit-refused e = record { answer = rw e; coeffs = rw e; space = rw e }
 
 -- a fit of accepted sizes
 pub fit-accepted : (solver : Solver) (theta target : List Float) (rows n : ℕ) (setup : Setup) (cs cs' ws ws' : List Float) (r : Report)

@@ -34,7 +34,7 @@ returns : tie.Need-returns
 returns c =
     let at-solve-normal = c .before .before .before .before in
     let told = at-solve-normal .before .before .before in
-    at-solve-normal .solve-normal .ensures ∙ sym (rw (told .enum-told .given .1))
+    rw (told .enum-told .given .1) (at-solve-normal .solve-normal .ensures)
 
 same-length-3 : tie.Need-same-length-3
 same-length-3 c = search needs
@@ -46,7 +46,7 @@ returns-2 : tie.Need-returns-2
 returns-2 c =
     let at-solve-qr = c .before .before .before .before in
     let told = at-solve-qr .before .before .before in
-    at-solve-qr .solve-qr .ensures ∙ sym (rw (told .enum-told2 .given .1))
+    rw (told .enum-told2 .given .1) (at-solve-qr .solve-qr .ensures)
 
 pub solve-terms-spec : {M : Type 1} → statement M
 solve-terms-spec =

@@ -13,25 +13,18 @@ use Rattle.strlsq.proofs.inner.fit.Statement.{statement}
 use Rattle.strlsq.proofs.inner.fit.Tie as tie
 
 returns : tie.Need-returns
-returns c =
-    let start = c .before .before .before .before .before in
-    let a = start .args in
-    fit-refused (a .solver) (now (a .theta)) (now (a .target)) (a .n-rows) (a .n-cols) (a .setup) (now (a .coeffs)) (now (a .workspace)) _ (many-columns _ _ _ _ _ _ _ _ (c .if1 .taken))
+returns c = fit-refused (many-columns _ _ _ _ _ _ _ _ (c .if1 .taken))
 
 returns-2 : tie.Need-returns-2
 returns-2 c =
     let at-if1 = c .before in
-    let start = at-if1 .before .before .before .before .before in
-    let a = start .args in
-    fit-refused (a .solver) (now (a .theta)) (now (a .target)) (a .n-rows) (a .n-cols) (a .setup) (now (a .coeffs)) (now (a .workspace)) _ (many-rows _ _ _ _ _ _ _ _ (at-if1 .if1 .left) (c .if2 .taken))
+    fit-refused (many-rows _ _ _ _ _ _ _ _ (at-if1 .if1 .left) (c .if2 .taken))
 
 returns-3 : tie.Need-returns-3
 returns-3 c =
     let at-if2 = c .before .before in
     let at-if1 = at-if2 .before in
-    let start = at-if1 .before .before .before .before .before in
-    let a = start .args in
-    fit-refused (a .solver) (now (a .theta)) (now (a .target)) (a .n-rows) (a .n-cols) (a .setup) (now (a .coeffs)) (now (a .workspace)) _ (many-rounds _ _ _ _ _ _ _ _ (at-if1 .if1 .left) (at-if2 .if2 .left) (c .if3 .taken))
+    fit-refused (many-rounds _ _ _ _ _ _ _ _ (at-if1 .if1 .left) (at-if2 .if2 .left) (c .if3 .taken))
 
 mul-if4 : tie.Need-mul-if4
 mul-if4 c = omega (arith, mul-le-mul (c .before .before .if2 .left) (c .before .before .before .if1 .left))
@@ -41,9 +34,7 @@ returns-4 c =
     let at-if3 = c .before in
     let at-if2 = at-if3 .before .before in
     let at-if1 = at-if2 .before in
-    let start = at-if1 .before .before .before .before .before in
-    let a = start .args in
-    fit-refused (a .solver) (now (a .theta)) (now (a .target)) (a .n-rows) (a .n-cols) (a .setup) (now (a .coeffs)) (now (a .workspace)) _ (matrix-length _ _ _ _ _ _ _ _ (at-if1 .if1 .left) (at-if2 .if2 .left) (at-if3 .if3 .left) (c .if4 .taken))
+    fit-refused (matrix-length _ _ _ _ _ _ _ _ (at-if1 .if1 .left) (at-if2 .if2 .left) (at-if3 .if3 .left) (c .if4 .taken))
 
 returns-5 : tie.Need-returns-5
 returns-5 c =
@@ -51,9 +42,7 @@ returns-5 c =
     let at-if3 = at-if4 .before in
     let at-if2 = at-if3 .before .before in
     let at-if1 = at-if2 .before in
-    let start = at-if1 .before .before .before .before .before in
-    let a = start .args in
-    fit-refused (a .solver) (now (a .theta)) (now (a .target)) (a .n-rows) (a .n-cols) (a .setup) (now (a .coeffs)) (now (a .workspace)) _ (target-length _ _ _ _ _ _ _ _ (at-if1 .if1 .left) (at-if2 .if2 .left) (at-if3 .if3 .left) (at-if4 .if4 .left) (c .if5 .taken))
+    fit-refused (target-length _ _ _ _ _ _ _ _ (at-if1 .if1 .left) (at-if2 .if2 .left) (at-if3 .if3 .left) (at-if4 .if4 .left) (c .if5 .taken))
 
 returns-6 : tie.Need-returns-6
 returns-6 c =
@@ -62,9 +51,7 @@ returns-6 c =
     let at-if3 = at-if4 .before in
     let at-if2 = at-if3 .before .before in
     let at-if1 = at-if2 .before in
-    let start = at-if1 .before .before .before .before .before in
-    let a = start .args in
-    fit-refused (a .solver) (now (a .theta)) (now (a .target)) (a .n-rows) (a .n-cols) (a .setup) (now (a .coeffs)) (now (a .workspace)) _ (output-length _ _ _ _ _ _ _ _ (at-if1 .if1 .left) (at-if2 .if2 .left) (at-if3 .if3 .left) (at-if4 .if4 .left) (at-if5 .if5 .left) (c .if6 .taken))
+    fit-refused (output-length _ _ _ _ _ _ _ _ (at-if1 .if1 .left) (at-if2 .if2 .left) (at-if3 .if3 .left) (at-if4 .if4 .left) (at-if5 .if5 .left) (c .if6 .taken))
 
 needed-requires : tie.Need-needed-requires
 needed-requires c κs = search needs
@@ -78,9 +65,7 @@ returns-7 c =
     let at-if3 = at-if4 .before in
     let at-if2 = at-if3 .before .before in
     let at-if1 = at-if2 .before in
-    let start = at-if1 .before .before .before .before .before in
-    let a = start .args in
-    fit-refused (a .solver) (now (a .theta)) (now (a .target)) (a .n-rows) (a .n-cols) (a .setup) (now (a .coeffs)) (now (a .workspace)) _ (workspace-short _ _ _ _ _ _ _ _ (at-if1 .if1 .left) (at-if2 .if2 .left) (at-if3 .if3 .left) (at-if4 .if4 .left) (at-if5 .if5 .left) (at-if6 .if6 .left) (rw (at-needed .needed .ensures) at (c .if7 .taken)))
+    fit-refused (workspace-short _ _ _ _ _ _ _ _ (at-if1 .if1 .left) (at-if2 .if2 .left) (at-if3 .if3 .left) (at-if4 .if4 .left) (at-if5 .if5 .left) (at-if6 .if6 .left) (rw (at-needed .needed .ensures) at (c .if7 .taken)))
 
 sub-fitted : tie.Need-sub-fitted
 sub-fitted c = search needs
