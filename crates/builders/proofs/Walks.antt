@@ -1,7 +1,7 @@
 -- A walk of the rows that keeps sums side by side: what they are before the first row, and after one more. Assumes nothing.
 use mathlib.Core.Path.{_≡_, sym, ap, _∙_}
 use mathlib.Core.List.{List}
-use Prim.Native.Nat.{ℕ, _+_, _≤_, _<_}
+use Prim.Native.Nat.{ℕ, _+_, _≤_}
 use native.Mathlib.Omega.{arith}
 use lib.ListN.{length, drop, replicate, length-replicate, getD-replicate, List·getD-append}
 use lib.Ieee.{Float, nan, binary64}

@@ -1,5 +1,5 @@
 -- Writing a list from its last number down, and collecting a support by rising term. Assumes nothing.
-use mathlib.Core.Path.{_≡_, refl, ap, _∙_, subst}
+use mathlib.Core.Path.{_≡_, refl, _∙_, subst}
 use mathlib.Core.Logic.{⊎-elim}
 use mathlib.Core.Bool.{Bool, cond}
 use mathlib.Core.List.{List}
@@ -9,7 +9,7 @@ use native.Mathlib.Omega.{arith}
 use lib.ListN.{length, set, length-set}
 use lib.Seq.{getD-set-same, getD-set-other}
 use lib.Ieee.{Float, nan}
-use Rattle.steps.specs.Num.{+zero, at}
+use Rattle.steps.specs.Num.{at}
 use Rattle.steps.specs.Cond.{either}
 use Rattle.steps.specs.Table.{tab, is-tab}
 use Rattle.support.specs.Word.{word, with-term}

@@ -1,6 +1,6 @@
 -- Householder QR and Q-transpose, by document 01's sentences. Every sum here starts at -0.0. Assumes nothing.
 use Prim.Native.Nat.{ℕ}
-use mathlib.Core.Bool.{Bool, cond}
+use mathlib.Core.Bool.{cond}
 use mathlib.Core.List.{List}
 use lib.Dec.{ltb, leb, eqb}
 use lib.ListN.{set}

@@ -1,6 +1,6 @@
 -- Least squares: QR, Q-transpose, back substitution, by document 01's sentences. Assumes nothing.
 use Prim.Native.Nat.{ℕ}
-use mathlib.Core.Bool.{Bool, cond}
+use mathlib.Core.Bool.{cond}
 use mathlib.Core.List.{List}
 use lib.ListN.{set, take}
 use lib.Ieee.{Float, lt}

@@ -7,8 +7,8 @@ use Rattle.steps.specs.Loops.{Way, going, stopped, left}
 use Rattle.refusal.specs.Answers.{told}
 use Rattle.refusal.specs.declared.Solved.{Solved}
 use Rattle.refusal.specs.declared.Solved.the-variants.{Done, Refused}
-use Rattle.cholesky.specs.Cholesky.{chol-factor, chol-forward, chol-back, chol-end, cholesky}
-use Rattle.lu.specs.Lu.{lu-factor, lu-forward, lu-back, lu-end, lu}
+use Rattle.cholesky.specs.Cholesky.{chol-factor, chol-end, cholesky}
+use Rattle.lu.specs.Lu.{lu}
 use Rattle.normal.specs.Normal.{right, or-lu, normal}
 
 module _ (n : ℕ) (a b : List Float) where

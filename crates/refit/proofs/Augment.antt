@@ -17,7 +17,6 @@ use Rattle.steps.specs.Table.{tab, is-tab, table, is-table}
 use Rattle.steps.specs.Space.{cleared, cleared-all, withPart, length-with, get-with, get-after}
 use Rattle.steps.specs.Wrote.{Wrote}
 use Rattle.steps.specs.Rows.{Rows, rows-apart}
-use Rattle.support.specs.Word.{term}
 use Rattle.support.specs.CountLaws.{ones-is}
 use Rattle.support.specs.TermLaws.{term-is}
 use Rattle.builders.specs.Inner.{Lists}

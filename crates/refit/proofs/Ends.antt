@@ -1,5 +1,5 @@
 -- How a solve over a support ends: refused, or its values put at their terms. Assumes nothing.
-use mathlib.Core.Path.{_≡_, refl, sym, ap, _∙_, subst}
+use mathlib.Core.Path.{_≡_, sym, ap, _∙_, subst}
 use mathlib.Core.List.{List, _++_}
 use Prim.Native.Nat.{ℕ, _*_, _^_, _≤_, _<_}
 use native.Mathlib.Nat.{mul-le-mul}
@@ -8,7 +8,7 @@ use lib.Count.{ones, ones-le}
 use lib.ListN.{length, take}
 use lib.Seq.{take-at}
 use lib.Ieee.{Float}
-use Rattle.refusal.specs.Answers.{Solution, solved, refused}
+use Rattle.refusal.specs.Answers.{Solution, solved}
 use Rattle.refusal.specs.declared.Solved.{Solved}
 use Rattle.refusal.specs.declared.Solved.the-variants.{Done, Refused}
 use Rattle.normal.specs.Normal.{normal}

@@ -1,5 +1,5 @@
 -- Only the values at the head of the coefficients go to terms. Assumes nothing.
-use mathlib.Core.Path.{_≡_, ap, _∙_}
+use mathlib.Core.Path.{_≡_, ap}
 use mathlib.Core.Logic.{⊎-elim}
 use mathlib.Core.Bool.{true, cond}
 use mathlib.Core.List.{List, _++_}

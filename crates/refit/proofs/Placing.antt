@@ -55,9 +55,6 @@ module _ (rows n w k : ℕ) (ws : List Float) (few : k ≡ ones w) (within : w <
     pub same-space : length (withPart 0 ((rows + k) * k + (rows + k)) x ws) ≡ length ws
     same-space = length-with 0 _ x ws (omega arith) qr-fits (kept ∙ qr-head ∙ sym (sub-zero _))
 
-    pub values-in : (rows + k) * k + k ≤ length (withPart 0 ((rows + k) * k + (rows + k)) x ws)
-    values-in = omega (arith, same-space, qr-fits)
-
     read : part ((rows + k) * k) ((rows + k) * k + k) (withPart 0 ((rows + k) * k + (rows + k)) x ws) ≡ take k (drop ((rows + k) * k) x)
     read = read-behind ((rows + k) * k) (rows + k) k ws x (kept ∙ qr-head) (omega arith)
 

@@ -1,7 +1,7 @@
 -- How a fit begins: no data, a first solve that is refused, or one that gives the first coefficients. Assumes nothing.
-use mathlib.Core.Path.{_≡_, refl, sym, ap, _∙_, subst}
+use mathlib.Core.Path.{_≡_, refl, sym, ap, _∙_}
 use mathlib.Core.Logic.{_≢_}
-use mathlib.Core.Bool.{Bool, true, cond}
+use mathlib.Core.Bool.{true, cond}
 use mathlib.Core.List.{List, [], _∷_}
 use Prim.Native.Nat.{ℕ, _+_, _≤_, _<_, zero-le}
 use native.Mathlib.Omega.{arith}
@@ -10,7 +10,7 @@ use lib.ListN.{length}
 use lib.Ieee.{Float, nan}
 use Rattle.steps.specs.Num.{+zero, at, cell}
 use Rattle.steps.specs.Space.{cleared}
-use Rattle.steps.specs.Table.{tab, is-tab, tab-cong}
+use Rattle.steps.specs.Table.{is-tab, tab-cong}
 use Rattle.support.specs.Word.{has, place, full}
 use Rattle.support.specs.SupportLaws.{has-full}
 use Rattle.support.specs.CountLaws.{place-is, count-full}
@@ -21,7 +21,7 @@ use Rattle.rule.specs.declared.Setup.{Setup}
 use Rattle.rule.specs.declared.Solver.{Solver}
 use Rattle.rule.specs.declared.Stop.{Stop}
 use Rattle.rule.specs.declared.Stop.the-variants.{NoData, FirstRefused}
-use Rattle.rule.specs.Rule.{Problem, State, going, done, zeros, scatter, first, start, rounds}
+use Rattle.rule.specs.Rule.{Problem, going, done, zeros, scatter, first, start, rounds}
 use Rattle.rule.specs.Fits.{problem, solves}
 use Rattle.rule.specs.Stable.{stays}
 use Rattle.rule.specs.Values.{one-a-column, solves-full}

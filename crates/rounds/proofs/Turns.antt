@@ -1,19 +1,18 @@
 -- The loop of the fits over the rule's states: what holds at its test, and what each way out of a turn gives. Assumes nothing.
 use mathlib.Core.Path.{_≡_, refl, sym, ap, _∙_, subst}
 use mathlib.Core.Logic.{_≢_}
-use mathlib.Core.List.{List, [], _∷_}
+use mathlib.Core.List.{List, _∷_}
 use Prim.Native.Nat.{ℕ, suc, _+_, _<_, _≤_}
 use native.Mathlib.Nat.{le-antisymm}
 use native.Mathlib.Numerals.{add-one}
 use native.Mathlib.Omega.{arith}
 use borrow.Author.Tests.{eq-eqb, ne-eqb}
-use lib.Dec.{eqb}
 use lib.ListN.{length}
 use lib.Ieee.{Float}
 use Rattle.refusal.specs.Answers.{Solution, solved, refused}
 use Rattle.rule.specs.declared.Stop.{Stop}
 use Rattle.rule.specs.declared.Stop.the-variants.{Empty, RefitRefused, Settled, OutOfRounds}
-use Rattle.rule.specs.Rule.{Problem, State, going, done, latest, zeros, support, scatter, refit, look, round, rounds, finish, fit}
+use Rattle.rule.specs.Rule.{Problem, going, done, latest, zeros, support, scatter, refit, look, round, rounds, finish, fit}
 use Rattle.rule.specs.Stable.{stays}
 use Rattle.refit.specs.Parts.{placed}
 use Rattle.rounds.specs.Ran.{CameTo}

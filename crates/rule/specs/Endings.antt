@@ -1,18 +1,18 @@
 -- How a fit ends: a refused solve with zeros, no NaN but out of rounds, the kept word's rule. Once over the problem. Assumes nothing.
 use mathlib.Core.Path.{_≡_, refl, sym, ap, _∙_, subst}
-use mathlib.Core.Logic.{_≢_, _⊎_, inl, inr, ⊎-elim}
-use mathlib.Core.Bool.{Bool, true, false, cond, _&&_}
+use mathlib.Core.Logic.{_≢_, _⊎_, ⊎-elim}
+use mathlib.Core.Bool.{Bool, false, cond, _&&_}
 use mathlib.Core.List.{List, [], _∷_}
-use Prim.Native.Nat.{ℕ, zero, suc, _≤_, _<_}
+use Prim.Native.Nat.{ℕ, zero, suc, _<_}
 use borrow.Author.Tests.{eqb-true, eqb-false, lt-ltb, le-ltb}
 use lib.Dec.{eqb, ltb}
 use lib.ListN.{getD-replicate}
 use lib.Ieee.{Float, nan, inf, fin, ofBits}
 use Rattle.steps.specs.Num.{+zero, at}
-use Rattle.steps.specs.Cond.{either, yes-or-no, lt-or-ge}
-use Rattle.steps.specs.Table.{tab, getD-tab, tab-cong, tab-replicate}
+use Rattle.steps.specs.Cond.{either, lt-or-ge}
+use Rattle.steps.specs.Table.{getD-tab, tab-cong, tab-replicate}
 use Rattle.refusal.specs.Answers.{Solution, solved, refused}
-use Rattle.support.specs.Word.{has, word, place}
+use Rattle.support.specs.Word.{has, place}
 use Rattle.support.specs.WordLaws.{word-lt, has-word, has-beyond}
 use Rattle.rule.specs.declared.Stop.{Stop}
 use Rattle.rule.specs.declared.Stop.the-variants.{NoData, FirstRefused, Empty, RefitRefused, Settled, OutOfRounds}

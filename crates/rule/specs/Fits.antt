@@ -1,11 +1,10 @@
 -- The two fits: the rule at two solves. Assumes nothing.
 use Prim.Native.Nat.{ℕ, _+_, _-_}
 use mathlib.Core.Bool.{Bool, cond}
-use mathlib.Core.List.{List}
 use lib.Count.{ones}
 use lib.Dec.{eqb, ltb}
 use lib.Ieee.{Float, lt, le}
-use Rattle.steps.specs.Num.{+zero, at, Entry, cell}
+use Rattle.steps.specs.Num.{+zero, Entry}
 use Rattle.steps.specs.Table.{tab, table}
 use Rattle.float64.specs.Root.{rootOf, absOf}
 use Rattle.refusal.specs.Answers.{Solution, solution}

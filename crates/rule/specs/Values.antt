@@ -1,6 +1,6 @@
 -- A solve gives one value a column, and over the full support it is the solve of all columns. Assumes nothing.
-use mathlib.Core.Path.{_≡_, refl, sym, ap, ap₂, _∙_, subst}
-use mathlib.Core.Bool.{Bool, cond}
+use mathlib.Core.Path.{_≡_, ap, ap₂, _∙_}
+use mathlib.Core.Bool.{cond}
 use mathlib.Core.List.{List}
 use Prim.Native.Nat.{ℕ, _+_, _-_, _≤_, _<_}
 use native.Mathlib.Omega.{arith}
@@ -12,12 +12,12 @@ use lib.Ieee.{Float, lt}
 use Rattle.steps.specs.Num.{+zero, 1e-15, at, Entry, cell}
 use Rattle.steps.specs.Cond.{either}
 use Rattle.steps.specs.Loops.{Way, going, stopped, left, loop-keeps, down-keeps, way-keeps, way-down-keeps}
-use Rattle.steps.specs.Table.{tab, table, length-tab, tab-cong, table-cong}
+use Rattle.steps.specs.Table.{tab, length-tab, tab-cong, table-cong}
 use Rattle.steps.specs.Space.{swapped}
 use Rattle.float64.specs.Root.{rootOf, absOf}
 use Rattle.support.specs.Word.{full}
 use Rattle.support.specs.CountLaws.{ones-full}
-use Rattle.refusal.specs.Answers.{Solution, solved, refused, solution}
+use Rattle.refusal.specs.Answers.{solved, solution}
 use Rattle.builders.specs.Products.{gram, moment, ridge, damped, jtj-matrix, jtr-column, columns}
 use Rattle.builders.specs.ProductLaws.{gram-cong, moment-cong, columns-full}
 use Rattle.decomp.specs.Qr.{turn, qt, after, betas}

@@ -4,7 +4,7 @@ use mathlib.Core.List.{List, [], _++_, append-nil}
 use Prim.Native.Nat.{ℕ, _+_, _-_, _≤_, _<_}
 use native.Mathlib.Nat.{sub-zero}
 use native.Mathlib.Omega.{arith}
-use lib.ListN.{length, take, drop, set, getD, List·getD-append, take-append-drop, length-drop}
+use lib.ListN.{length, take, drop, set, List·getD-append, take-append-drop, length-drop}
 use lib.Seq.{getD-append-add, take-at, drop-at, drop-drop, drop-length, take-append-le, drop-append-le}
 use lib.Ieee.{Float, nan}
 use Rattle.steps.specs.Num.{at}

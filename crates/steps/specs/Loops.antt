@@ -1,5 +1,5 @@
 -- Loops over the numbers lo..hi, by rising and by falling number, and loops that are left early. Each has its laws for no turn, one more, and the end.
-use mathlib.Core.Path.{_≡_, refl, sym, ap, _∙_, subst}
+use mathlib.Core.Path.{_≡_, refl, sym, ap, _∙_}
 use Prim.Native.Nat.{ℕ, zero, suc, _+_, _-_, _≤_, _<_}
 use native.Mathlib.Nat.{sub-self, add-sub-of-le, add-zero, add-suc, not-suc-le-zero, le-antisymm}
 use native.Mathlib.Omega.{arith}

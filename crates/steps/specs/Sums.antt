@@ -1,5 +1,5 @@
 -- Sums from a given start, by rising index: every addition, or subtraction, rounds once. Assumes nothing.
-use mathlib.Core.Path.{_≡_, refl, sym, ap, ap₂, _∙_}
+use mathlib.Core.Path.{_≡_, sym, ap, ap₂, _∙_}
 use Prim.Native.Nat.{ℕ, _+_, _≤_, _<_}
 use lib.Ieee.{Float}
 use Rattle.steps.specs.Num.{plus, less}

@@ -4,7 +4,7 @@ use mathlib.Core.Path.{_≡_, refl}
 use mathlib.Core.List.{List, [], _∷_}
 use lib.Ieee.{Float, nan}
 use lib.Count.{ones}
-use Rattle.steps.specs.Num.{lit, +zero, -zero, one, -one, two, at, cell}
+use Rattle.steps.specs.Num.{lit, +zero, one, at, cell}
 use Rattle.support.specs.Word as W
 use Rattle.builders.specs.Products as B
 use Rattle.rule.specs.Rule as R
@@ -14,8 +14,8 @@ use Rattle.rule.specs.declared.Setup.{Setup}
 use Rattle.rule.specs.declared.Solver.{Solver}
 use Rattle.rule.specs.declared.Solver.the-variants.{Normal, Qr}
 use Rattle.rule.specs.declared.Stop.{Stop}
-use Rattle.rule.specs.declared.Stop.the-variants.{NoData, FirstRefused, Empty, RefitRefused, Settled, OutOfRounds}
-use Rattle.table.specs.Solvers.{opened, three, four}
+use Rattle.rule.specs.declared.Stop.the-variants.{NoData, Empty, Settled, OutOfRounds}
+use Rattle.table.specs.Solvers.{opened, three}
 
 -- all that a fit computes with
 unfoldable pub fits : Unit {0}

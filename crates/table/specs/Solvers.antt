@@ -1,7 +1,6 @@
 -- The cases of the solvers that catch what the marked ones let through, C1 and C2 among them. All by computing. Assumes nothing.
-use Prim.Native.Nat.{ℕ}
 use mathlib.Core.Path.{_≡_, refl}
-use mathlib.Core.List.{List, [], _∷_}
+use mathlib.Core.List.{[], _∷_}
 use lib.Ieee.{Float, nan, ofBits, add, sub, neg, mul, div, lt, le, eq, round, size, sum, isNan}
 use Rattle.steps.specs.Num as N
 use Rattle.steps.specs.Num.{lit, +zero, -zero, one, -one, two}
@@ -11,7 +10,7 @@ use Rattle.steps.specs.Sums as S
 use Rattle.steps.specs.Table as T
 use Rattle.steps.specs.Space as P
 use Rattle.float64.specs.Root as R
-use Rattle.refusal.specs.Answers.{solved, refused}
+use Rattle.refusal.specs.Answers.{solved}
 use Rattle.decomp.specs.Qr as Q
 use Rattle.cholesky.specs.Cholesky as C
 use Rattle.lu.specs.Lu as U

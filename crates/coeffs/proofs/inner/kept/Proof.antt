@@ -1,6 +1,6 @@
 -- `kept` meets its contract: its test is `keeps`.
-use mathlib.Core.Path.{_≡_, ap}
-use lib.Ieee.{Float, le}
+use mathlib.Core.Path.{ap}
+use lib.Ieee.{le}
 use borrow.Author.Needs.{needs}
 use Rattle.rule.specs.Fits.{keeps}
 use Rattle.coeffs.proofs.inner.kept.Statement.{statement}

@@ -1,5 +1,5 @@
 -- `look_at` meets its contract: it asks `kept`.
-use mathlib.Core.Path.{_≡_, sym, _∙_}
+use mathlib.Core.Path.{sym, _∙_}
 use borrow.Author.Needs.{needs}
 use Rattle.rule.specs.Fits.{keeps}
 use Rattle.coeffs.proofs.inner.look_at.Statement.{statement}

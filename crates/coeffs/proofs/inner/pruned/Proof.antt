@@ -1,5 +1,4 @@
 -- `pruned` meets its contract: its test is `clears`.
-use mathlib.Core.Path.{_≡_, sym, ap, _∙_}
 use borrow.Author.Needs.{needs}
 use Rattle.rule.specs.Fits.{clears}
 use Rattle.coeffs.proofs.inner.pruned.Statement.{statement}

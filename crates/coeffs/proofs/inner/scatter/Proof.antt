@@ -1,11 +1,10 @@
 -- `scatter` meets its contract. The loop's invariant: the terms from j on have their values, those before are as they were.
-use mathlib.Core.Path.{_≡_, refl, sym, ap, _∙_}
+use mathlib.Core.Path.{_≡_, ap, _∙_}
 use mathlib.Core.Bool.{cond}
-use Prim.Native.Nat.{ℕ, _-_, _≤_, _<_}
+use Prim.Native.Nat.{_-_, _≤_, _<_}
 use native.Mathlib.Omega.{arith}
 use lib.ListN.{length}
 use lib.Ieee.{Float}
-use borrow.Author.Needs.{needs}
 use denote.Ref.{now}
 use Rattle.steps.specs.Num.{+zero, at}
 use Rattle.support.specs.Word.{has, place}

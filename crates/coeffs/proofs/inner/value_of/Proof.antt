@@ -1,5 +1,5 @@
 -- `value_of` meets its contract: a reduced place is at most its term number.
-use mathlib.Core.Path.{_≡_, sym, _∙_}
+use mathlib.Core.Path.{sym, _∙_}
 use native.Mathlib.Omega.{arith}
 use borrow.Author.Needs.{needs}
 use Rattle.support.specs.Word.{has}

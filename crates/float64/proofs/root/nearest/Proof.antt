@@ -1,5 +1,5 @@
 -- `float64::root::nearest` meets its contract: only the last way out can say yes, and there every test held. Assumes nothing.
-use Prim.Native.Nat.{_+_, _*_, _/_, _%_, _^_}
+use Prim.Native.Nat.{_/_, _%_, _^_}
 use mathlib.Core.Bool.{false≢true}
 use native.Mathlib.Omega.{arith}
 use borrow.Author.Needs.{needs}

@@ -1,8 +1,7 @@
 -- `run` meets its contract: no data, a first solve that is refused, or the rounds after it.
-use mathlib.Core.Path.{_≡_, refl, sym, ap, _∙_}
+use mathlib.Core.Path.{_∙_}
 use native.Mathlib.Omega.{arith}
 use borrow.Author.Needs.{needs}
-use lib.ListN.{length}
 use denote.Ref.{now}
 use Rattle.support.specs.SupportLaws.{full-lt}
 use Rattle.rounds.proofs.Rounds.{zeroed}

@@ -1,5 +1,5 @@
 -- `solve_terms` meets its contract: each solver's own.
-use mathlib.Core.Path.{_≡_, refl, sym, ap, _∙_}
+use mathlib.Core.Path.{ap, _∙_}
 use borrow.Author.Needs.{needs}
 use Rattle.rule.specs.Calls.{fit-need}
 use Rattle.rule.specs.declared.Solver.{Solver}

@@ -1,5 +1,5 @@
 -- `swap` meets its contract: its two stores are those of `swapped`.
-use mathlib.Core.Path.{_≡_, refl}
+use mathlib.Core.Path.{refl}
 use borrow.Author.Needs.{needs}
 use Rattle.steps.specs.Space.{swapped}
 use Rattle.slices.proofs.inner.swap.Statement.{statement}

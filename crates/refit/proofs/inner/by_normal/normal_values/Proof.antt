@@ -1,13 +1,10 @@
 -- `normal_values` meets its contract: the sums of the support's columns, then the normal equations of them.
-use mathlib.Core.Path.{_≡_, refl, sym, ap, _∙_}
+use mathlib.Core.Path.{_≡_, sym, ap, _∙_}
 use Prim.Native.Nat.{ℕ, _*_, _-_, _≤_}
-use native.Mathlib.Nat.{mul-le-mul, sub-zero}
+use native.Mathlib.Nat.{mul-le-mul}
 use native.Mathlib.Omega.{arith}
 use borrow.Author.Needs.{needs}
-use lib.Count.{ones}
-use lib.ListN.{length, take, length-append, length-take, length-drop}
-use lib.Seq.{length-take-le}
-use denote.Ref.{now}
+use lib.ListN.{length, length-append, length-take, length-drop}
 use Rattle.refusal.specs.Answers.{solution}
 use Rattle.rule.specs.Fits.{by-normal, by-sums}
 use Rattle.refit.proofs.Ends.{few-pairs, normal-of}
