@@ -1,6 +1,6 @@
 // Sums kept side by side while the rows of theta are walked once. A table lists the term number of each reduced place.
 ghost use mathlib.Core.Path.{_≡_};
-ghost use Prim.Native.Nat.{_+_, _*_, _^_, _≤_, _<_};
+ghost use Prim.Native.Nat.{_+_, _*_, _≤_, _<_};
 ghost use lib.ListN.{length};
 ghost use Rattle.steps.specs.Num.{plus, times, +zero, at, cell as cell-of};
 ghost use Rattle.steps.specs.Wrote.{Wrote};

@@ -1,5 +1,5 @@
 // The list of exchanges, by the oracle: `cd oracle/diff && cargo run --release --features stand-in -- replay 1 > ../../crates/cases/stdin`. An entry is two lengths of four hex digits and a newline, then an input and its answer; an entry with no answer names the group of those after it.
-ghost use Prim.Native.Nat.{_+_, _≤_};
+ghost use Prim.Native.Nat.{_≤_};
 ghost use mathlib.Core.Path.{_≡_};
 ghost use lib.ListN.{length};
 ghost use Rattle.io.specs.Counts.{Counts};

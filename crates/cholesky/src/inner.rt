@@ -1,6 +1,6 @@
 // Cholesky: the factor, column by column, then forward and back substitution.
 ghost use mathlib.Core.Path.{_≡_};
-ghost use Prim.Native.Nat.{_+_, _*_, _≤_, _<_};
+ghost use Prim.Native.Nat.{_+_, _*_, _<_};
 ghost use lib.ListN.{length};
 ghost use Rattle.steps.specs.Num.{times, at, cell};
 ghost use Rattle.steps.specs.Sums.{less-sum};

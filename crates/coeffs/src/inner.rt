@@ -1,7 +1,7 @@
 // The coefficients: a look at them, the last pass, and the values of a refit put at their terms.
 ghost use mathlib.Core.Path.{_≡_};
 ghost use mathlib.Core.Bool.{cond};
-ghost use Prim.Native.Nat.{ℕ, _^_, _≤_, _<_};
+ghost use Prim.Native.Nat.{_≤_, _<_};
 ghost use lib.ListN.{length, set};
 ghost use Rattle.steps.specs.Num.{+zero, at};
 ghost use Rattle.steps.specs.Table.{tab};

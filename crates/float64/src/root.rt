@@ -3,7 +3,7 @@
 
 ghost use mathlib.Core.Path.{_≡_};
 ghost use mathlib.Core.Bool.{true};
-ghost use Prim.Native.Nat.{ℕ, _+_, _*_, _^_, _≤_, _<_};
+ghost use Prim.Native.Nat.{ℕ, _*_, _^_, _≤_, _<_};
 ghost use Rattle.float64.specs.Rule.{unitsOf};
 ghost use Rattle.float64.specs.Parts.{Whole, Halved, Widened, Rooted};
 use std::num::wrapping_sub_u64;

@@ -1,6 +1,6 @@
 // The fit of an input that was accepted.
 ghost use mathlib.Core.Path.{_≡_};
-ghost use Prim.Native.Nat.{_*_, _≤_};
+ghost use Prim.Native.Nat.{_≤_};
 ghost use lib.ListN.{length};
 ghost use Rattle.hex.specs.Put.{Written};
 ghost use Rattle.frames.specs.Exchange.{Accepted, Fitting, fit-as, fit-of, fit-lines};

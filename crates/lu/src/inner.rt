@@ -1,6 +1,6 @@
 // LU with the pivot's row brought up, then forward and back substitution.
 ghost use mathlib.Core.Path.{_≡_};
-ghost use Prim.Native.Nat.{_+_, _*_, _<_};
+ghost use Prim.Native.Nat.{_*_, _<_};
 ghost use lib.ListN.{length};
 ghost use Rattle.refusal.specs.Answers.{told};
 ghost use Rattle.lu.specs.Lu.{Pivots, swap-rows, lu-swap, less-row, eliminated, lu-factor, lu-forward, lu-back, lu};

@@ -1,7 +1,7 @@
 // The rounds of a fit: one loop for every solver.
 ghost use mathlib.Core.Path.{_≡_};
 ghost use mathlib.Core.List.{[]};
-ghost use Prim.Native.Nat.{ℕ, _+_, _*_, _^_, _≤_, _<_};
+ghost use Prim.Native.Nat.{_^_, _≤_, _<_};
 ghost use lib.ListN.{length};
 ghost use Rattle.rule.specs.Rule.{going, start};
 ghost use Rattle.rule.specs.Calls.{fit-need};

@@ -1,6 +1,6 @@
 // Each helper may require what its caller tested.
 ghost use mathlib.Core.Path.{_≡_};
-ghost use Prim.Native.Nat.{ℕ, _+_, _*_, _≤_, _<_};
+ghost use Prim.Native.Nat.{_+_, _*_, _≤_, _<_};
 ghost use lib.ListN.{length, set};
 ghost use Rattle.steps.specs.Num.{times, at, cell};
 ghost use Rattle.steps.specs.Sums.{less-sum};

@@ -1,6 +1,6 @@
 // The fit by a solver: its sizes, its rounds, its last pass and its report.
 ghost use mathlib.Core.Path.{_≡_};
-ghost use Prim.Native.Nat.{ℕ, _+_, _*_, _≤_, _<_};
+ghost use Prim.Native.Nat.{_≤_};
 ghost use lib.ListN.{length};
 ghost use Rattle.steps.specs.Num.{at, cell};
 ghost use Rattle.rule.specs.Fits.{fit-by};

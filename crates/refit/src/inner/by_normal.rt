@@ -1,6 +1,6 @@
 // A solve by the normal equations over a support's columns.
 ghost use mathlib.Core.Path.{_≡_};
-ghost use Prim.Native.Nat.{ℕ, _*_, _^_, _<_};
+ghost use Prim.Native.Nat.{_*_, _^_, _<_};
 ghost use lib.Count.{ones};
 ghost use lib.ListN.{length};
 ghost use Rattle.steps.specs.Num.{at, cell};
