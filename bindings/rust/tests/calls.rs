@@ -40,6 +40,12 @@ fn square_solvers() {
         solve_spd_cholesky(&mut a, &mut [1.0], 1),
         Err(Refusal::Cholesky)
     );
+    // a signalling NaN is passed over in the scale, on every processor
+    let mut a = [0.0, 0.0, 0.0, f64::from_bits(0x7ff0_0000_0000_0001)];
+    assert_eq!(
+        solve_spd_cholesky(&mut a, &mut [1.0, 1.0], 2),
+        Err(Refusal::Cholesky)
+    );
 
     let (mut a, mut b) = ([1.0, 2.0, -1.0, 3.0], [1.0, 4.0]);
     assert_eq!(solve_lu(&mut a, &mut b, 2), Ok(()));

@@ -40,3 +40,23 @@ fn numbered(answer: Result<(), EmlError>) -> Answer {
         Err(other) => unreachable!("a square solver gave {other}"),
     }
 }
+
+#[cfg(test)]
+mod tests {
+    use super::*;
+
+    /// The second diagonal entry is a signalling NaN. Document 01 passes it over, so the scale is 1 and the first column is
+    /// refused; where the machine's `max` hands it on, the published function's scale is a NaN that refuses nothing.
+    #[test]
+    fn a_signalling_nan_is_passed_over() {
+        let matrix = [0.0, 0.0, 0.0, f64::from_bits(0x7ff0_0000_0000_0001)];
+        let (mut a, mut b) = (matrix, [1.0, 1.0]);
+        assert_eq!(
+            solve_spd_cholesky(&mut a, &mut b, 2),
+            Err(Refusal::Cholesky)
+        );
+        let (mut a, mut b) = (matrix, [1.0, 1.0]);
+        let published = linalg::solve_spd_cholesky(&mut a, &mut b, 2);
+        assert_eq!(published.is_ok(), cfg!(target_arch = "aarch64"));
+    }
+}
