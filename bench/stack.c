@@ -56,6 +56,7 @@ int main(int argc, char **argv) {
     for (size_t i = 0; i < ROWS * COLS; i++) theta[i] = (rand() % 2000 - 1000) / 500.0;
     for (size_t i = 0; i < ROWS; i++) target[i] = 2 * theta[i * COLS] + theta[i * COLS + 5];
     if (posix_memalign((void **)&stack, 4096, STACK) != 0) return 2;
+    used(); // the first thread also binds what later ones find bound
     long bare = used();
     for (which = 1; which < sizeof names / sizeof names[0]; which++) printf("%-10s %6ld bytes\n", names[which], used() - bare);
     return 0;

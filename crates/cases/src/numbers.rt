@@ -3,20 +3,12 @@ ghost use Prim.Native.Nat.{_≤_};
 ghost use lib.ListN.{length};
 use super::say;
 use hex::inner::bits;
-use refusal::Answer;
+use refusal::answer_number;
 use rule::Fitted;
 use rule::Setup;
 use rule::Solver;
 
 const NAN: u64 = 0x7ff8_0000_0000_0000;
-
-// The number of a call's refusal, 0 for none.
-fn answer_number(a: Answer) -> u64 {
-    match a {
-        Answer::Done => 0,
-        Answer::Refused(w) => refusal::number(w),
-    }
-}
 
 // The number of a fit's refusal, 0 for none.
 fn fit_number(f: Fitted) -> u64 {

@@ -1,8 +1,9 @@
 // The list of exchanges, by the oracle: `cd oracle/diff && cargo run --release --features stand-in -- replay 1 > ../../crates/cases/stdin`. An entry is two lengths of four hex digits and a newline, then an input and its answer; an entry with no answer names the group of those after it.
 ghost use Prim.Native.Nat.{_≤_};
 ghost use mathlib.Core.Path.{_≡_};
+ghost use mathlib.Core.Bool.{true};
 ghost use lib.ListN.{length};
-ghost use Rattle.io.specs.Counts.{Counts};
+ghost use Rattle.frames.specs.Exchange.{answer-of};
 ghost use Rattle.cases.specs.List.{Placed, Tallied};
 use super::say;
 use hex::inner::all_hex;
@@ -57,17 +58,12 @@ fn entry_at(list: &[u8], at: usize) -> Entry
     Entry::Exchange(at + 9 + first, at + 9 + first + second)
 }
 
-// The answer to an input, at the head of `answer`.
-fn answer_to(input: &[u8], answer: &mut [u8; 295]) -> usize
-    ensures { λ r. ⌜ Counts r (now (answer .exit)) ⌝ }
-{
-    frames::respond(input, answer)
-}
-
 // Whether an input is answered so.
-fn alike(input: &[u8], wanted: &[u8]) -> bool {
+fn alike(input: &[u8], wanted: &[u8]) -> bool
+    ensures { λ r. ⌜ (r ≡ true → answer-of (now (input .entry)) ≡ now (wanted .entry)) × (answer-of (now (input .entry)) ≡ now (wanted .entry) → r ≡ true) ⌝ }
+{
     let mut answer = [0u8; 295];
-    let k = answer_to(input, &mut answer);
+    let k = frames::respond(input, &mut answer);
     check::same(&answer[..k], wanted)
 }
 

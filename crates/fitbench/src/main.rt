@@ -1,5 +1,4 @@
 // The bench program: reads standard input whole, and writes the answer to standard output.
-ghost use Rattle.io.specs.Counts.{Counts};
 ghost use Rattle.fitbench.specs.Read.{Came};
 use libc::STDIN_FILENO;
 use libc::STDOUT_FILENO;
@@ -32,13 +31,6 @@ fn read_whole(room: &mut [u8]) -> Input
     Input::Whole(n)
 }
 
-// The answer to an input, at the head of `answer`.
-fn answer_to(input: &[u8], answer: &mut [u8; 295]) -> usize
-    ensures { λ r. ⌜ Counts r (now (answer .exit)) ⌝ }
-{
-    frames::respond(input, answer)
-}
-
 // A read that fails ends the program with nothing written; so does a closed output.
 fn main() {
     let mut room = [0u8; ROOM];
@@ -46,6 +38,6 @@ fn main() {
         return;
     };
     let mut answer = [0u8; 295];
-    let k = answer_to(&room[..n], &mut answer);
+    let k = frames::respond(&room[..n], &mut answer);
     io::write_all(STDOUT_FILENO, &answer[..k]);
 }

@@ -1,5 +1,7 @@
 -- `fitbench::main` lends the bytes that came, and those of the answer. Assumes nothing.
 use Rattle.io.specs.Counts.{Counts}
+use Rattle.io.proofs.Counting.{counts}
+use Rattle.frames.specs.Unique.{respond-fits}
 use Rattle.fitbench.specs.Read.{came-whole}
 use borrow.Author.Needs.{needs}
 use Rattle.fitbench.proofs.main.Statement.{statement}
@@ -8,6 +10,10 @@ use Rattle.fitbench.proofs.main.Tie as tie
 -- as many bytes came as the pattern binds
 whole-came : (c : tie.After-n) → Counts (c .n .given .0 .0) (c .before .before .before .read-whole .last .0)
 whole-came c = came-whole _ _ _ (c .n .given .1) (c .before .before .before .read-whole .ensures)
+
+-- the answer stands where `respond` wrote it
+written : (c : tie.After-respond) → Counts (c .respond .result) (c .respond .last .1 .0)
+written c = counts _ _ (respond-fits _ _ _ _ (c .respond .ensures))
 
 slice-aggregate-read-whole : tie.Need-slice-aggregate-read-whole
 slice-aggregate-read-whole c = search needs
@@ -27,17 +33,17 @@ returns c = search needs
 array-share-prefix-room : tie.Need-array-share-prefix-room
 array-share-prefix-room c = whole-came (c .before) .0
 
-slice-aggregate-answer-to : tie.Need-slice-aggregate-answer-to
-slice-aggregate-answer-to c = whole-came (c .before .before) .1
+slice-aggregate-respond : tie.Need-slice-aggregate-respond
+slice-aggregate-respond c = whole-came (c .before .before) .1
 
-answer-to-requires : tie.Need-answer-to-requires
-answer-to-requires c κs = search needs
+respond-requires : tie.Need-respond-requires
+respond-requires c κs = search needs
 
 array-share-prefix-answer : tie.Need-array-share-prefix-answer
-array-share-prefix-answer c = search needs
+array-share-prefix-answer c = written c .0
 
 slice-aggregate-write-all : tie.Need-slice-aggregate-write-all
-slice-aggregate-write-all c = search needs
+slice-aggregate-write-all c = written (c .before) .1
 
 write-all-requires : tie.Need-write-all-requires
 write-all-requires c κs = search needs
@@ -55,8 +61,8 @@ main-spec =
     enum-told
     returns
     array-share-prefix-room
-    slice-aggregate-answer-to
-    answer-to-requires
+    slice-aggregate-respond
+    respond-requires
     array-share-prefix-answer
     slice-aggregate-write-all
     write-all-requires
