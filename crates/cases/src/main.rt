@@ -1,4 +1,5 @@
 // Document 01's cases: the marked ones are a proved table, in specs/; this program runs the others, and replays the list of exchanges on standard input.
+mod list;
 mod numbers;
 mod replay;
 mod say;
@@ -9,6 +10,6 @@ const ROOM: usize = 262144;
 fn main() {
     numbers::run();
     let mut room = [0u8; ROOM];
-    let n = io::read_full(libc::STDIN_FILENO, &mut room);
+    let n = list::read(&mut room);
     replay::run(&room[..n]);
 }

@@ -93,3 +93,29 @@ Q2-beta = refl
 pub Q3 : M.least 2 1 (one ∷ one ∷ []) (-zero ∷ -zero ∷ []) ≡ solved (-zero ∷ [])
 unfolding opened
 Q3 = refl
+
+-- C4: the substitutions of a matrix with an off-diagonal number; the number above the diagonal stays
+pub C4 : C.cholesky 2 (four ∷ two ∷ two ∷ five ∷ []) (lit 0x4020000000000000 ∷ lit 0x4022000000000000 ∷ [])
+    ≡ going ((two ∷ two ∷ one ∷ two ∷ []), (lit 0x3ff6000000000000 ∷ lit 0x3ff4000000000000 ∷ []))
+unfolding opened
+C4 = refl
+
+-- C5: 8 at the second column: the first holds the factor, all else is as it was, b too
+pub C5 : C.cholesky 2 (four ∷ two ∷ two ∷ -one ∷ []) (three ∷ five ∷ []) ≡ stopped 1 ((two ∷ two ∷ one ∷ -one ∷ []), (three ∷ five ∷ []))
+unfolding opened
+C5 = refl
+
+-- L4: 9 at the second column: the swap of the first stands, in b too
+pub L4 : U.lu 2 (+zero ∷ +zero ∷ one ∷ +zero ∷ []) (three ∷ five ∷ []) ≡ stopped 1 ((one ∷ +zero ∷ +zero ∷ +zero ∷ []), (five ∷ three ∷ []))
+unfolding opened
+L4 = refl
+
+-- L5: a small pivot below the diagonal is refused before its row is moved
+pub L5 : U.lu 2 (+zero ∷ one ∷ lit 0x3c9cd2b297d889bc ∷ two ∷ []) (three ∷ five ∷ []) ≡ stopped 0 ((+zero ∷ one ∷ lit 0x3c9cd2b297d889bc ∷ two ∷ []), (three ∷ five ∷ []))
+unfolding opened
+L5 = refl
+
+-- M1: least squares with a number above the diagonal of R
+pub M1 : M.least 2 2 (three ∷ one ∷ four ∷ two ∷ []) (five ∷ lit 0x4024000000000000 ∷ []) ≡ solved (lit 0xbce0000000000000 ∷ lit 0x4014000000000004 ∷ [])
+unfolding opened
+M1 = refl

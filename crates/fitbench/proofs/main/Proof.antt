@@ -2,7 +2,7 @@
 use Rattle.io.specs.Counts.{Counts}
 use Rattle.io.proofs.Counting.{counts}
 use Rattle.frames.specs.Unique.{respond-fits}
-use Rattle.fitbench.specs.Read.{came-whole}
+use Rattle.input.specs.Read.{came-whole}
 use borrow.Author.Needs.{needs}
 use Rattle.fitbench.proofs.main.Statement.{statement}
 use Rattle.fitbench.proofs.main.Tie as tie

@@ -1,0 +1,2 @@
+-- What reading an input promises. Assumes nothing.
+pub mod Read

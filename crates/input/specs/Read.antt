@@ -1,0 +1,25 @@
+-- What was read of the input. Which bytes came, no contract can say. Assumes nothing.
+use Prim.Native.Nat.{ℕ, zero, suc, _+_}
+use mathlib.Core.Path.{_≡_, subst}
+use mathlib.Core.List.{List}
+use lib.IntN.{ℤ, pos, negsuc}
+use Rattle.io.specs.Counts.{Counts}
+use Rattle.input.specs.declared.Input.{Input}
+use Rattle.input.specs.declared.Input.the-variants.{Whole, Failed}
+use Rattle.input.specs.declared.Next.{Next}
+use Rattle.input.specs.declared.Next.the-variants as N
+
+-- after n bytes a read answered: below zero it failed, 0 is the input's end, else so many more came
+abbrev pub after-read : ℕ → ℤ → Next
+after-read n (negsuc k) = N.Failed
+after-read n (pos zero) = N.Ended
+after-read n (pos (suc k)) = N.More (n + suc k)
+
+-- the bytes that came stand at the head of the room
+unfoldable pub Came : Input → List ℕ → Type 0
+Came (Whole n) room = Counts n room
+Came Failed room = Unit
+
+pub came-whole : (r : Input) (n : ℕ) (xs : List ℕ) → r ≡ Whole n → Came r xs → Counts n xs
+unfolding Came
+came-whole r n xs e h = subst (λ r. Came r xs) e h
