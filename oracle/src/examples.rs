@@ -27,6 +27,7 @@ pub fn all() -> Vec<Example> {
         example("in-series-damped", in_series(0.0625), Stop::Settled),
         example("dead-port", dead_port(), Stop::Settled),
         example("nan-reading", nan_reading(), Stop::Empty),
+        example("no-rows", no_rows(), Stop::NoData),
     ]
 }
 
@@ -113,6 +114,11 @@ fn nan_reading() -> Problem {
     let mut p = readings(Solver::Normal, 8, &[1.0, 0.5, -1.5], 0.01, setup(0.1, 0.0));
     p.set(5, 1, f64::NAN);
     p
+}
+
+/// A header and nothing behind it: no reading was taken.
+fn no_rows() -> Problem {
+    Problem::zeros(Solver::Normal, 0, 3, setup(0.5, 0.0))
 }
 
 #[cfg(test)]
