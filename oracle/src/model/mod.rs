@@ -10,7 +10,7 @@ mod qr;
 mod square;
 
 pub use builders::{jtj, jtr};
-pub use fits::{strlsq, strlsq_qr, strlsq_qr_workspace, strlsq_workspace};
+pub use fits::{fit, fit_workspace};
 pub use qr::{qr, solve_least_squares};
 pub use square::{solve_lu, solve_normal_equations, solve_spd_cholesky};
 

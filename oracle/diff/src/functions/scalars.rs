@@ -6,6 +6,7 @@ use crate::sizes;
 use dapmotar::raw;
 use oracle::generate::floats;
 use oracle::model;
+use oracle::problem::Solver;
 use oracle::refusal::{MAX_COLS, MAX_ROWS};
 use oracle::rng::Rng;
 
@@ -29,7 +30,7 @@ pub const STRLSQ_WORKSPACE: Function = Function {
     name: "strlsq_workspace",
     make: make_sizes,
     library: |call| raw::dapmotar_strlsq_workspace(call.sizes[0], call.sizes[1]) as u64,
-    model: |call| model::strlsq_workspace(call.sizes[0], call.sizes[1]) as u64,
+    model: |call| model::fit_workspace(Solver::Normal, call.sizes[0], call.sizes[1]) as u64,
     label: length_label,
 };
 
@@ -37,7 +38,7 @@ pub const STRLSQ_QR_WORKSPACE: Function = Function {
     name: "strlsq_qr_workspace",
     make: make_sizes,
     library: |call| raw::dapmotar_strlsq_qr_workspace(call.sizes[0], call.sizes[1]) as u64,
-    model: |call| model::strlsq_qr_workspace(call.sizes[0], call.sizes[1]) as u64,
+    model: |call| model::fit_workspace(Solver::Qr, call.sizes[0], call.sizes[1]) as u64,
     label: length_label,
 };
 
