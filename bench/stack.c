@@ -10,7 +10,7 @@
 enum { STACK = 1 << 20, ROWS = 4096, COLS = 64, PAINT = 0xa5 };
 
 static const char *const names[] = {"nothing", "jtj", "jtr", "cholesky", "lu", "normal", "qr", "least", "strlsq", "strlsq_qr", "respond", "sqrt"};
-static unsigned char *stack, input[40000], answer[295];
+static unsigned char *stack, input[40000], answer[DAPMOTAR_ANSWER];
 static size_t which, input_len;
 static double *theta, *target, *square, *values, *space;
 

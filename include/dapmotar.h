@@ -2,12 +2,19 @@
  * dapmotar.h: the fitting core of a calibration bench, from C and C++.
  *
  * The library is target/staticlib/libcapi.a, made by `rt staticlib capi` at the top of the repository.
+ * docs/REFERENCE.md is the reference of what each call does.
  *
  * Slices.      A slice is a pointer and its length in numbers. A null pointer with length 0 is an empty slice.
- *              Slices that are written must not overlap each other or one that is read.
+ * Arrays       of a fixed length, report[3] and answer[DAPMOTAR_ANSWER], are never null.
+ * Overlap.     What is written, slice or array, must not overlap anything else that is read or written.
  * Matrices     stand by rows: entry (i, j) of a matrix of n columns is number i*n + j.
- * Numbers      may have any bits: infinities, NaN, zeros of both signs. Each operation rounds once, to nearest.
- *              Where a result is NaN, its bits are not promised.
+ * Numbers      may have any bits: infinities, NaN, zeros of both signs. Each operation rounds once.
+ * NaN.         A NaN from dapmotar_sqrt is 7ff8000000000000, always; dapmotar_abs hands a NaN on with its bits. Of any
+ *              other computed NaN the bits are not promised.
+ * Machine.     While a call runs the processor must round to nearest, ties to even, keep subnormal numbers (x86: FTZ
+ *              and DAZ of MXCSR off; Arm: FZ of FPCR off) and not trap floating-point exceptions. So a C program
+ *              starts, but one linked with -ffast-math may not. No call tests it: rounded upward, for one, the answers
+ *              have other bits.
  * Answers.     0, or the number of the refusal: the first that applies, in the order below. No call traps.
  * Workspaces   are lent by the caller. They may be longer than needed. After an accepted call and after 9 they are
  *              +0.0 over the needed length; numbers past it are untouched.
@@ -25,44 +32,45 @@ extern "C" {
 
 /* Limits. */
 enum {
-    DAPMOTAR_MAX_COLS = 64,     /* columns of a fit, jtj, jtr, qr, least squares; n of a square solver */
-    DAPMOTAR_MAX_ROWS = 4096,   /* rows of a fit, jtj, jtr */
+    DAPMOTAR_MAX_COLS = 64,      /* columns of a fit, jtj, jtr, qr, least squares; n of a square solver */
+    DAPMOTAR_MAX_ROWS = 4096,    /* rows of a fit, jtj, jtr */
     DAPMOTAR_MAX_QR_ROWS = 4160, /* rows of qr and least squares */
-    DAPMOTAR_MAX_ROUNDS = 1000  /* max_iter of a fit */
+    DAPMOTAR_MAX_ROUNDS = 1000   /* max_iter of a fit */
 };
 
 /*
- * Refusals, in the order in which they are looked for. All but 8 and 9 leave every slice unchanged; what 8 and 9
- * leave is said at the calls that give them.
+ * Refusals, in the order in which they are looked for. All but 8 and 9 leave every slice and the report unchanged; what
+ * 8 and 9 leave is said at the calls that give them.
  */
 enum {
     DAPMOTAR_ACCEPTED = 0,
-    DAPMOTAR_COLUMNS = 1,         /* columns above the limit */
-    DAPMOTAR_ROWS = 2,            /* rows above the limit */
-    DAPMOTAR_ROUNDS = 3,          /* max_iter above 1,000 */
-    DAPMOTAR_MATRIX = 4,          /* the matrix is not rows * columns long */
-    DAPMOTAR_RIGHT_HAND_SIDE = 5, /* the target or right-hand side is not as long as there are rows */
-    DAPMOTAR_OUTPUT = 6,          /* an output has the wrong length */
-    DAPMOTAR_FEWER_ROWS = 10,     /* fewer rows than columns: qr and least squares only */
-    DAPMOTAR_WORKSPACE = 7,       /* the workspace is shorter than needed */
-    DAPMOTAR_CHOLESKY = 8,        /* Cholesky refuses: not positive definite */
-    DAPMOTAR_SMALL_PIVOT = 9      /* a small pivot or diagonal: singular */
+    DAPMOTAR_REFUSED_COLUMNS = 1,         /* columns above the limit */
+    DAPMOTAR_REFUSED_ROWS = 2,            /* rows above the limit */
+    DAPMOTAR_REFUSED_ROUNDS = 3,          /* max_iter above 1,000 */
+    DAPMOTAR_REFUSED_MATRIX = 4,          /* the matrix is not rows * columns long */
+    DAPMOTAR_REFUSED_RIGHT_HAND_SIDE = 5, /* the target or right-hand side is not as long as there are rows */
+    DAPMOTAR_REFUSED_OUTPUT = 6,          /* an output has the wrong length */
+    DAPMOTAR_REFUSED_FEWER_ROWS = 10,     /* fewer rows than columns: qr and least squares only */
+    DAPMOTAR_REFUSED_WORKSPACE = 7,       /* the workspace is shorter than needed */
+    DAPMOTAR_REFUSED_CHOLESKY = 8,        /* Cholesky refuses: not positive definite */
+    DAPMOTAR_REFUSED_SMALL_PIVOT = 9,     /* a small pivot or diagonal: singular */
+    DAPMOTAR_REFUSED_MALFORMED = 11       /* a malformed frame: dapmotar_respond writes it, no call returns it */
 };
 
 /* Why a fit ended: the first number of its report. */
 enum {
-    DAPMOTAR_NO_DATA = 0,       /* no rows or no columns: zeros */
-    DAPMOTAR_FIRST_REFUSED = 1, /* the first solve was refused: zeros */
-    DAPMOTAR_EMPTY = 2,         /* no term was kept: zeros */
-    DAPMOTAR_REFIT_REFUSED = 3, /* a refit was refused: zeros */
-    DAPMOTAR_SETTLED = 4,       /* a look kept the terms of the last refit */
-    DAPMOTAR_OUT_OF_ROUNDS = 5  /* max_iter rounds are used up; only here a coefficient can be NaN */
+    DAPMOTAR_STOP_NO_DATA = 0,       /* no rows or no columns: zeros */
+    DAPMOTAR_STOP_FIRST_REFUSED = 1, /* the first solve was refused: zeros */
+    DAPMOTAR_STOP_EMPTY = 2,         /* no term was kept: zeros */
+    DAPMOTAR_STOP_REFIT_REFUSED = 3, /* a refit was refused: zeros */
+    DAPMOTAR_STOP_SETTLED = 4,       /* a look kept the terms of the last refit */
+    DAPMOTAR_STOP_OUT_OF_ROUNDS = 5  /* max_iter rounds are used up; only here a coefficient can be NaN */
 };
 
-/* The square root, rounded to nearest. Zeros and +infinity give themselves; NaN and numbers below zero a NaN. */
+/* The square root, rounded to nearest. Zeros and +infinity give themselves; NaN and numbers below zero that one NaN. */
 double dapmotar_sqrt(double x);
 
-/* The magnitude. */
+/* The magnitude. A NaN is handed on, its sign too. */
 double dapmotar_abs(double x);
 
 /*
@@ -138,16 +146,21 @@ uint64_t dapmotar_strlsq_qr(const double *theta, size_t theta_len, size_t n_rows
 
 /*
  * The numbers of workspace that a fit needs, with r rows and c columns: r*c + 2*c*c + c for the normal equations,
- * 2*(r+c)*c + 3*(r+c) + 3*c for QR; 0 where the sizes are beyond the limits.
+ * 2*(r+c)*c + 3*(r+c) + 3*c for QR. 0 says that none is needed (no columns; for QR no rows either), or that the sizes
+ * are beyond the limits: then the fit is refused, 1 or 2, whatever workspace it gets. Either way a null pointer with
+ * length 0 will do.
  */
 size_t dapmotar_strlsq_workspace(size_t n_rows, size_t n_cols);
 size_t dapmotar_strlsq_qr_workspace(size_t n_rows, size_t n_cols);
 
+/* The room for an answer of dapmotar_respond: a report's line, and a line for each of 16 coefficients. */
+enum { DAPMOTAR_ANSWER = 295 };
+
 /*
- * The bench program's exchange: writes the answer to the frames in input to the head of answer, and gives its length.
- * Any bytes are an input; every answer fits.
+ * The bench program's exchange: writes the answer to the frames in input to the head of answer, leaves the bytes behind
+ * it, and gives its length. Any bytes are an input; every answer fits.
  */
-size_t dapmotar_respond(const uint8_t *input, size_t input_len, uint8_t answer[295]);
+size_t dapmotar_respond(const uint8_t *input, size_t input_len, uint8_t answer[DAPMOTAR_ANSWER]);
 
 #ifdef __cplusplus
 }

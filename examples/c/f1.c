@@ -37,6 +37,8 @@ int main(void)
         fprintf(stderr, "refusal %llu\n", (unsigned long long)refusal);
         return EXIT_FAILURE;
     }
+    if (report[0] != DAPMOTAR_STOP_SETTLED)
+        puts("the fit did not settle");
     printf("stop %llu, refits %llu, kept %llx\n", (unsigned long long)report[0], (unsigned long long)report[1],
            (unsigned long long)report[2]);
     for (int port = 0; port < 2; port++)

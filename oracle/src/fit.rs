@@ -62,16 +62,24 @@ pub fn fit(p: &Problem) -> Fit {
     fit
 }
 
+/// The signature of the published functions.
+pub type Published = fn(&[f64], usize, usize, &[f64], f64, f64, usize) -> Vec<f64>;
+
 /// The coefficients by the published function.
 pub fn published(p: &Problem) -> Vec<f64> {
+    fitted_by(p, strlsq, strlsq_qr)
+}
+
+/// The coefficients by the one of two functions that solves as the problem asks.
+pub fn fitted_by(p: &Problem, normal: Published, qr: Published) -> Vec<f64> {
     let Setup {
         threshold,
         lambda,
         max_iter,
     } = p.setup;
     let fit = match p.solver {
-        Solver::Normal => strlsq,
-        Solver::Qr => strlsq_qr,
+        Solver::Normal => normal,
+        Solver::Qr => qr,
     };
     fit(
         &p.theta, p.rows, p.cols, &p.target, threshold, lambda, max_iter,

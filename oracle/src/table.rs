@@ -170,7 +170,8 @@ fn sizes() -> Vec<Line> {
         p.theta.fill(1.0);
         let needed = cols + 2 * cols * cols + cols;
         let (mut coeffs, mut workspace) = (vec![1.0; cols], vec![1.0; needed - short]);
-        model::strlsq(
+        model::fit(
+            Solver::Normal,
             &p.theta,
             1,
             cols,

@@ -3,16 +3,16 @@
 //! A refusal leaves every slice as it was, but for [`Refusal::Cholesky`] and [`Refusal::SmallPivot`]: see there.
 //! A workspace is +0.0 over the needed length after an accepted call and after `SmallPivot`, and untouched past it.
 
-use crate::raw;
+use crate::raw::{self, ANSWER};
 use crate::refusal::Refusal;
 use crate::report::{Report, Setup};
 
-/// The square root of IEEE 754, rounded to nearest; a NaN for a NaN and for numbers below zero.
+/// The square root of IEEE 754, rounded to nearest; for a NaN and for numbers below zero the NaN 7ff8000000000000.
 pub fn sqrt(x: f64) -> f64 {
     raw::dapmotar_sqrt(x)
 }
 
-/// The magnitude.
+/// The magnitude; a NaN is handed on with its bits.
 pub fn abs(x: f64) -> f64 {
     raw::dapmotar_abs(x)
 }
@@ -217,12 +217,19 @@ fn fit(
     Ok(Report::from_words(report))
 }
 
-/// The workspace that [`strlsq`] needs, in numbers; 0 where the sizes are beyond the limits.
+/// The workspace that [`strlsq`] needs, in numbers; 0 also where the sizes are beyond the limits, which it refuses.
 pub fn strlsq_workspace(n_rows: usize, n_cols: usize) -> usize {
     raw::dapmotar_strlsq_workspace(n_rows, n_cols)
 }
 
-/// The workspace that [`strlsq_qr`] needs, in numbers; 0 where the sizes are beyond the limits.
+/// The workspace that [`strlsq_qr`] needs, in numbers; 0 also where the sizes are beyond the limits, which it refuses.
 pub fn strlsq_qr_workspace(n_rows: usize, n_cols: usize) -> usize {
     raw::dapmotar_strlsq_qr_workspace(n_rows, n_cols)
+}
+
+/// The bench program's exchange: the answer to the frames in `input`, which stands at the head of `answer`; the bytes
+/// behind it stay. Any bytes are an input.
+pub fn respond<'a>(input: &[u8], answer: &'a mut [u8; ANSWER]) -> &'a [u8] {
+    let length = unsafe { raw::dapmotar_respond(input.as_ptr(), input.len(), answer) };
+    &answer[..length]
 }

@@ -25,5 +25,6 @@ mod refusal;
 mod report;
 
 pub use calls::*;
+pub use raw::ANSWER;
 pub use refusal::Refusal;
 pub use report::{Report, Setup, Stop};

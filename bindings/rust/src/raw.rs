@@ -1,23 +1,40 @@
 //! The exports of the static library, as include/dapmotar.h declares them. A slice is a pointer and a length; a
-//! null pointer with length 0 is an empty slice.
+//! null pointer with length 0 is an empty slice. What is written must not overlap anything else that is read or
+//! written, and `report` and `answer` are never null.
 
-/// Either fit.
-pub type Fit = unsafe extern "C" fn(
-    theta: *const f64,
-    theta_len: usize,
-    n_rows: usize,
-    n_cols: usize,
-    target: *const f64,
-    target_len: usize,
-    threshold: f64,
-    lambda: f64,
-    max_iter: usize,
-    coeffs: *mut f64,
-    coeffs_len: usize,
-    workspace: *mut f64,
-    workspace_len: usize,
-    report: *mut [u64; 3],
-) -> u64;
+/// The room for an answer of [`dapmotar_respond`], in bytes.
+pub const ANSWER: usize = 295;
+
+/// The fits' one signature: as the type of either, and as the declaration of both.
+macro_rules! fits {
+    ($($name:ident)* : $takes:tt -> $gives:ty) => {
+        /// Either fit.
+        pub type Fit = unsafe extern "C" fn $takes -> $gives;
+
+        unsafe extern "C" {
+            $(pub fn $name $takes -> $gives;)*
+        }
+    };
+}
+
+fits! {
+    dapmotar_strlsq dapmotar_strlsq_qr: (
+        theta: *const f64,
+        theta_len: usize,
+        n_rows: usize,
+        n_cols: usize,
+        target: *const f64,
+        target_len: usize,
+        threshold: f64,
+        lambda: f64,
+        max_iter: usize,
+        coeffs: *mut f64,
+        coeffs_len: usize,
+        workspace: *mut f64,
+        workspace_len: usize,
+        report: *mut [u64; 3],
+    ) -> u64
+}
 
 unsafe extern "C" {
     pub safe fn dapmotar_sqrt(x: f64) -> f64;
@@ -92,41 +109,10 @@ unsafe extern "C" {
         workspace_len: usize,
     ) -> u64;
 
-    pub fn dapmotar_strlsq(
-        theta: *const f64,
-        theta_len: usize,
-        n_rows: usize,
-        n_cols: usize,
-        target: *const f64,
-        target_len: usize,
-        threshold: f64,
-        lambda: f64,
-        max_iter: usize,
-        coeffs: *mut f64,
-        coeffs_len: usize,
-        workspace: *mut f64,
-        workspace_len: usize,
-        report: *mut [u64; 3],
-    ) -> u64;
-
-    pub fn dapmotar_strlsq_qr(
-        theta: *const f64,
-        theta_len: usize,
-        n_rows: usize,
-        n_cols: usize,
-        target: *const f64,
-        target_len: usize,
-        threshold: f64,
-        lambda: f64,
-        max_iter: usize,
-        coeffs: *mut f64,
-        coeffs_len: usize,
-        workspace: *mut f64,
-        workspace_len: usize,
-        report: *mut [u64; 3],
-    ) -> u64;
-
     pub safe fn dapmotar_strlsq_workspace(n_rows: usize, n_cols: usize) -> usize;
 
     pub safe fn dapmotar_strlsq_qr_workspace(n_rows: usize, n_cols: usize) -> usize;
+
+    pub fn dapmotar_respond(input: *const u8, input_len: usize, answer: *mut [u8; ANSWER])
+    -> usize;
 }

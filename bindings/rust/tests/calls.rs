@@ -6,8 +6,28 @@ use dapmotar::*;
 fn root_and_magnitude() {
     assert_eq!(sqrt(4.0), 2.0);
     assert_eq!(sqrt(2.0).to_bits(), 0x3ff6_a09e_667f_3bcd);
-    assert!(sqrt(-1.0).is_nan());
     assert_eq!(abs(-0.0).to_bits(), 0);
+}
+
+/// NaN of both signs, quiet and signalling, with payloads.
+const NANS: [u64; 5] = [
+    0x7ff8_0000_0000_0000,
+    0xfff8_0000_0000_0000,
+    0x7ff0_0000_0000_0001,
+    0xfff0_0000_0000_0001,
+    0xffff_ffff_ffff_ffff,
+];
+
+#[test]
+fn the_bits_of_a_nan() {
+    let smallest = f64::from_bits(0x8000_0000_0000_0001);
+    let below_zero = [-1.0, f64::NEG_INFINITY, f64::MIN, smallest];
+    for x in NANS.map(f64::from_bits).into_iter().chain(below_zero) {
+        assert_eq!(sqrt(x).to_bits(), 0x7ff8_0000_0000_0000, "{x:e}");
+    }
+    for bits in NANS {
+        assert_eq!(abs(f64::from_bits(bits)).to_bits(), bits);
+    }
 }
 
 #[test]
@@ -144,4 +164,16 @@ fn empty_slices() {
             kept: 0
         })
     );
+}
+
+#[test]
+fn exchange() {
+    let input = b"01000202000a3fe00000000000000000000000000000\n\
+        40080000000000003ff00000000000000000000000000000\n\
+        3fd000000000000000000000000000003ff0000000000000\n";
+    let mut answer = [b'.'; ANSWER];
+    let said = b"0400010000000000000001\n4008000000000000\n0000000000000000\n";
+    assert_eq!(respond(input, &mut answer), said);
+    assert_eq!(answer[said.len()..], [b'.'; ANSWER][said.len()..]);
+    assert_eq!(respond(b"", &mut answer), b"ff0b\n");
 }

@@ -17,6 +17,8 @@ use Rattle.rule.specs.Codes.{fitted-number}
 use Rattle.rule.specs.Unique.{fit-unique}
 use Rattle.rule.specs.declared.Setup.{Setup}
 use Rattle.rule.specs.declared.Solver.{Solver}
+use Rattle.frames.specs.Exchange.{Exchange}
+use Rattle.frames.specs.Unique.{respond-unique}
 use Rattle.capi.specs.Numbered.{Numbered, Reported, workspace}
 
 pub export-sqrt-unique : (x r s : Float) → r ≡ rootOf x → s ≡ rootOf x → r ≡ s
@@ -75,3 +77,6 @@ module _ (solver : Solver) (theta target : List Float) (rows n : ℕ) (setup : S
 
 pub export-workspace-unique : (solver : Solver) (rows n r s : ℕ) → r ≡ workspace solver rows n → s ≡ workspace solver rows n → r ≡ s
 export-workspace-unique solver rows n r s p q = cc
+
+pub export-respond-unique : (input was out out' : List ℕ) (r s : ℕ) → Exchange input was out r → Exchange input was out' s → (r ≡ s) × (out ≡ out')
+export-respond-unique = respond-unique

@@ -9,11 +9,13 @@ const NOTHING_CHANGED: [u64; 8] = [1, 2, 3, 4, 5, 6, 7, 10];
 
 /// The first thing in which a call differs from the model: answer, slices, report, guards.
 ///
-/// Computed numbers may be any NaN for any NaN. What must stay unchanged keeps its bits.
+/// Computed numbers in slices may be any NaN for any NaN. What must stay unchanged keeps its bits.
 pub fn difference(before: &Call, got: (&Call, u64), expected: (&Call, u64)) -> Option<String> {
     let ((got, answer), (expected, wanted)) = (got, expected);
     if answer != wanted {
-        return Some(format!("the answer is {answer} and should be {wanted}"));
+        return Some(format!(
+            "the answer is {answer} ({answer:#x}) and should be {wanted} ({wanted:#x})"
+        ));
     }
     let unchanged = NOTHING_CHANGED.contains(&wanted) && !expected.writes.is_empty();
     let reads = got

@@ -3,9 +3,9 @@
 use crate::functions::FIT_SIZE;
 use dapmotar::oxieml;
 use oracle::bits::first_difference;
-use oracle::fit::published;
+use oracle::fit::{fitted_by, published};
 use oracle::generate::{floats, kinds};
-use oracle::problem::{Problem, Setup, Solver};
+use oracle::problem::Problem;
 use oracle::rng::Rng;
 
 /// Problem number `index` of a seed: what differs, if anything.
@@ -15,7 +15,8 @@ pub fn one(seed: u64, index: u64) -> Option<String> {
     if rng.once_in(4) {
         lengthen(&mut rng, &mut p);
     }
-    let (got, expected) = (dropped_in(&p), published(&p));
+    let got = fitted_by(&p, oxieml::strlsq, oxieml::strlsq_qr);
+    let expected = published(&p);
     let j = first_difference(&got, &expected)?;
     let solver = p.solver.name();
     Some(format!(
@@ -31,19 +32,4 @@ fn lengthen(rng: &mut Rng, p: &mut Problem) {
     for _ in 0..rng.between(0, 3) {
         p.target.push(floats::any(rng));
     }
-}
-
-fn dropped_in(p: &Problem) -> Vec<f64> {
-    let Setup {
-        threshold,
-        lambda,
-        max_iter,
-    } = p.setup;
-    let fit = match p.solver {
-        Solver::Normal => oxieml::strlsq,
-        Solver::Qr => oxieml::strlsq_qr,
-    };
-    fit(
-        &p.theta, p.rows, p.cols, &p.target, threshold, lambda, max_iter,
-    )
 }

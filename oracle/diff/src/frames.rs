@@ -1,28 +1,23 @@
 //! `dapmotar_respond` against the reference bench program.
 
+use dapmotar::raw::{ANSWER, dapmotar_respond};
 use oracle::frames::answered;
 use oracle::generate::{Made, damaged, input, label};
 use oracle::histogram::Histogram;
 
-unsafe extern "C" {
-    /// Writes the bench program's answer to the head of `answer`, and gives its length.
-    fn dapmotar_respond(input: *const u8, input_len: usize, answer: *mut u8) -> usize;
-}
-
-/// The longest answer: 23 bytes and 17 for each of 16 coefficients.
-const ROOM: usize = 295;
-/// Bytes past the room that no call may touch.
-const GUARD: usize = 16;
+/// Bytes past the room that no call may touch: more than a coefficient's line, which a wilful fault writes there.
+const GUARD: usize = 32;
 const GUARD_BYTE: u8 = 0xa5;
 
 /// The library's answer, or what is wrong with it.
 fn respond(input: &[u8]) -> Result<Vec<u8>, String> {
-    let mut answer = vec![GUARD_BYTE; ROOM + GUARD];
-    let len = unsafe { dapmotar_respond(input.as_ptr(), input.len(), answer.as_mut_ptr()) };
-    if answer[ROOM..].iter().any(|&b| b != GUARD_BYTE) {
+    let mut answer = vec![GUARD_BYTE; ANSWER + GUARD];
+    let room = answer.as_mut_ptr().cast();
+    let len = unsafe { dapmotar_respond(input.as_ptr(), input.len(), room) };
+    if answer[ANSWER..].iter().any(|&b| b != GUARD_BYTE) {
         return Err("written past the room given".into());
     }
-    if len > ROOM {
+    if len > ANSWER {
         return Err(format!("an answer of {len} bytes"));
     }
     answer.truncate(len);

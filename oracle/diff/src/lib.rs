@@ -17,6 +17,23 @@ pub mod sizes;
 pub mod slice;
 pub mod sqrt;
 
+/// The compiler holds the stand-in's definitions against the declarations that the runs call.
+#[cfg(feature = "stand-in")]
+const _: () = {
+    macro_rules! declared {
+        ($($name:ident)*) => {
+            $(let _ = [dapmotar::raw::$name, stand_in::exports::$name];)*
+        };
+    }
+    declared! {
+        dapmotar_sqrt dapmotar_abs dapmotar_jtj dapmotar_jtr
+        dapmotar_solve_spd_cholesky dapmotar_solve_lu dapmotar_solve_normal_equations
+        dapmotar_qr dapmotar_solve_least_squares
+        dapmotar_strlsq dapmotar_strlsq_qr dapmotar_strlsq_workspace dapmotar_strlsq_qr_workspace
+        dapmotar_respond
+    }
+};
+
 /// The stand-in's fault, where there is a stand-in.
 pub fn set_fault_from_env() {
     #[cfg(feature = "stand-in")]

@@ -1,8 +1,9 @@
-//! `dapmotar_sqrt` against the machine's root: equal on every class of patterns, and the time a call.
+//! `dapmotar_sqrt` against the machine's root: equal bits on every class of patterns, the one NaN too, and the time a
+//! call.
 
 use dapmotar::raw::dapmotar_sqrt;
-use oracle::bits::same;
 use oracle::generate::floats;
+use oracle::model;
 use oracle::rng::Rng;
 use std::hint::black_box;
 use std::time::Instant;
@@ -87,7 +88,7 @@ pub fn compare(class: &Class, seed: u64, count: u64) -> (u64, Option<f64>) {
     let (mut differ, mut first) = (0, None);
     for _ in 0..count {
         let x = (class.draw)(&mut rng);
-        if !same(dapmotar_sqrt(x), x.sqrt()) {
+        if dapmotar_sqrt(x).to_bits() != model::sqrt(x).to_bits() {
             differ += 1;
             first = first.or(Some(x));
         }

@@ -3,7 +3,7 @@
 
 use diff::fault::{self, Fault};
 use diff::functions::ALL;
-use diff::{drop_in, frames, run};
+use diff::{drop_in, frames, run, sqrt};
 use oracle::generate::{damaged, input};
 
 const SEED: u64 = 1;
@@ -30,11 +30,20 @@ fn found_in_frames(inputs: u64) -> Option<(&'static str, u64, String)> {
     })
 }
 
+/// The same for `diff sqrt`: the class, how many of its patterns differ, and the first.
+fn found_among_roots(patterns: u64) -> Option<(&'static str, u64, String)> {
+    sqrt::CLASSES.iter().find_map(|class| {
+        let (differ, first) = sqrt::compare(class, SEED, patterns);
+        first.map(|x| (class.name, differ, format!("{:016x}", x.to_bits())))
+    })
+}
+
 /// One test, since the fault is one for the whole process.
 #[test]
 fn every_fault_is_found_and_nothing_else() {
     assert_eq!(found(3_000), None);
     assert_eq!(found_in_frames(3_000), None);
+    assert_eq!(found_among_roots(3_000), None);
     for index in 0..3_000 {
         assert_eq!(drop_in::one(SEED, index), None);
     }
@@ -50,6 +59,10 @@ fn every_fault_is_found_and_nothing_else() {
         match found {
             Some((name, index, text)) => println!("{fault:?}: {name} {index}: {text}"),
             None => missed.push(fault),
+        }
+        let of_roots = format!("{fault:?}").starts_with("Root");
+        if of_roots && found_among_roots(3_000).is_none() {
+            missed.push(fault);
         }
         fault::set(Fault::None);
     }

@@ -1,18 +1,13 @@
 //! Both fits and the workspaces that they need.
 
 use super::{Answer, clear, refuse_if};
-use crate::fit::{Report, fit};
+use crate::fit::{self, Report};
 use crate::problem::{Problem, Setup, Solver};
 use crate::refusal::{MAX_COLS, MAX_ROUNDS, MAX_ROWS, Refusal};
 
-/// The numbers that `strlsq` needs, 0 beyond the limits.
-pub fn strlsq_workspace(n_rows: usize, n_cols: usize) -> usize {
-    workspace_of(Solver::Normal, n_rows, n_cols).unwrap_or(0)
-}
-
-/// The numbers that `strlsq_qr` needs, 0 beyond the limits.
-pub fn strlsq_qr_workspace(n_rows: usize, n_cols: usize) -> usize {
-    workspace_of(Solver::Qr, n_rows, n_cols).unwrap_or(0)
+/// The numbers of workspace that a fit needs, 0 beyond the limits.
+pub fn fit_workspace(solver: Solver, n_rows: usize, n_cols: usize) -> usize {
+    workspace_of(solver, n_rows, n_cols).unwrap_or(0)
 }
 
 fn workspace_of(solver: Solver, r: usize, c: usize) -> Option<usize> {
@@ -28,50 +23,9 @@ fn limits(n_rows: usize, n_cols: usize) -> Answer {
     refuse_if(n_rows > MAX_ROWS, Refusal::Rows)
 }
 
-pub fn strlsq(
-    theta: &[f64],
-    n_rows: usize,
-    n_cols: usize,
-    target: &[f64],
-    setup: Setup,
-    coeffs: &mut [f64],
-    workspace: &mut [f64],
-) -> Result<Report, Refusal> {
-    run(
-        Solver::Normal,
-        theta,
-        n_rows,
-        n_cols,
-        target,
-        setup,
-        coeffs,
-        workspace,
-    )
-}
-
-pub fn strlsq_qr(
-    theta: &[f64],
-    n_rows: usize,
-    n_cols: usize,
-    target: &[f64],
-    setup: Setup,
-    coeffs: &mut [f64],
-    workspace: &mut [f64],
-) -> Result<Report, Refusal> {
-    run(
-        Solver::Qr,
-        theta,
-        n_rows,
-        n_cols,
-        target,
-        setup,
-        coeffs,
-        workspace,
-    )
-}
-
+/// `strlsq` or `strlsq_qr`.
 #[allow(clippy::too_many_arguments)]
-fn run(
+pub fn fit(
     solver: Solver,
     theta: &[f64],
     n_rows: usize,
@@ -96,7 +50,7 @@ fn run(
         theta: theta.to_vec(),
         target: target.to_vec(),
     };
-    let fit = fit(&problem);
+    let fit = fit::fit(&problem);
     coeffs.copy_from_slice(&fit.coeffs);
     clear(workspace, needed);
     Ok(fit.report)

@@ -10,10 +10,11 @@ mod qr;
 mod square;
 
 pub use builders::{jtj, jtr};
-pub use fits::{strlsq, strlsq_qr, strlsq_qr_workspace, strlsq_workspace};
+pub use fits::{fit, fit_workspace};
 pub use qr::{qr, solve_least_squares};
 pub use square::{solve_lu, solve_normal_equations, solve_spd_cholesky};
 
+use crate::bits::shown;
 use crate::refusal::Refusal;
 
 /// The answer of a call that gives no report.
@@ -29,10 +30,12 @@ fn clear(workspace: &mut [f64], needed: usize) {
     workspace[..needed].fill(0.0);
 }
 
+/// The machine's root, with the one NaN that document 01 names.
 pub fn sqrt(x: f64) -> f64 {
-    x.sqrt()
+    f64::from_bits(shown(x.sqrt()))
 }
 
+/// The Rust's magnitude, but that a NaN keeps its sign (docs/DIFFERENCES.md).
 pub fn abs(x: f64) -> f64 {
-    x.abs()
+    if x.is_nan() { x } else { x.abs() }
 }

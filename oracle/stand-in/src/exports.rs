@@ -9,7 +9,7 @@ use crate::sizes::{Sizes, clear};
 use crate::{builders, qr, root, square};
 use std::slice;
 
-unsafe fn part<'a>(p: *const f64, len: usize) -> &'a [f64] {
+unsafe fn part<'a, T>(p: *const T, len: usize) -> &'a [T] {
     if len == 0 {
         &[]
     } else {
@@ -106,36 +106,29 @@ fn square_sizes(a_len: usize, b_len: usize, n: usize) -> Sizes {
     sizes
 }
 
-#[unsafe(no_mangle)]
-pub unsafe extern "C" fn dapmotar_solve_spd_cholesky(
-    a: *mut f64,
-    a_len: usize,
-    b: *mut f64,
-    b_len: usize,
-    n: usize,
-) -> u64 {
-    let (a, b) = unsafe { (part_mut(a, a_len), part_mut(b, b_len)) };
-    let sizes = square_sizes(a_len, b_len, n);
-    if sizes.first() != 0 {
-        return refused(sizes.first(), b, &mut []);
-    }
-    square::cholesky(a, b, n)
+macro_rules! square_solvers {
+    ($($name:ident: $solve:path;)*) => {$(
+        #[unsafe(no_mangle)]
+        pub unsafe extern "C" fn $name(
+            a: *mut f64,
+            a_len: usize,
+            b: *mut f64,
+            b_len: usize,
+            n: usize,
+        ) -> u64 {
+            let (a, b) = unsafe { (part_mut(a, a_len), part_mut(b, b_len)) };
+            let sizes = square_sizes(a_len, b_len, n);
+            if sizes.first() != 0 {
+                return refused(sizes.first(), b, &mut []);
+            }
+            $solve(a, b, n)
+        }
+    )*};
 }
 
-#[unsafe(no_mangle)]
-pub unsafe extern "C" fn dapmotar_solve_lu(
-    a: *mut f64,
-    a_len: usize,
-    b: *mut f64,
-    b_len: usize,
-    n: usize,
-) -> u64 {
-    let (a, b) = unsafe { (part_mut(a, a_len), part_mut(b, b_len)) };
-    let sizes = square_sizes(a_len, b_len, n);
-    if sizes.first() != 0 {
-        return refused(sizes.first(), b, &mut []);
-    }
-    square::lu(a, b, n)
+square_solvers! {
+    dapmotar_solve_spd_cholesky: square::cholesky;
+    dapmotar_solve_lu: square::lu;
 }
 
 #[unsafe(no_mangle)]
@@ -302,78 +295,50 @@ unsafe fn fit(
     0
 }
 
-#[unsafe(no_mangle)]
-pub unsafe extern "C" fn dapmotar_strlsq(
-    theta: *const f64,
-    theta_len: usize,
-    n_rows: usize,
-    n_cols: usize,
-    target: *const f64,
-    target_len: usize,
-    threshold: f64,
-    lambda: f64,
-    max_iter: usize,
-    coeffs: *mut f64,
-    coeffs_len: usize,
-    workspace: *mut f64,
-    workspace_len: usize,
-    report: *mut [u64; 3],
-) -> u64 {
-    unsafe {
-        let problem = Fit {
-            by_qr: false,
-            theta: part(theta, theta_len),
-            rows: n_rows,
-            cols: n_cols,
-            target: part(target, target_len),
-            threshold,
-            lambda,
-            max_iter,
-        };
-        fit(
-            problem,
-            part_mut(coeffs, coeffs_len),
-            part_mut(workspace, workspace_len),
-            report,
-        )
-    }
+macro_rules! fits {
+    ($($name:ident: by_qr $by_qr:literal;)*) => {$(
+        #[unsafe(no_mangle)]
+        pub unsafe extern "C" fn $name(
+            theta: *const f64,
+            theta_len: usize,
+            n_rows: usize,
+            n_cols: usize,
+            target: *const f64,
+            target_len: usize,
+            threshold: f64,
+            lambda: f64,
+            max_iter: usize,
+            coeffs: *mut f64,
+            coeffs_len: usize,
+            workspace: *mut f64,
+            workspace_len: usize,
+            report: *mut [u64; 3],
+        ) -> u64 {
+            unsafe {
+                let problem = Fit {
+                    by_qr: $by_qr,
+                    theta: part(theta, theta_len),
+                    rows: n_rows,
+                    cols: n_cols,
+                    target: part(target, target_len),
+                    threshold,
+                    lambda,
+                    max_iter,
+                };
+                fit(
+                    problem,
+                    part_mut(coeffs, coeffs_len),
+                    part_mut(workspace, workspace_len),
+                    report,
+                )
+            }
+        }
+    )*};
 }
 
-#[unsafe(no_mangle)]
-pub unsafe extern "C" fn dapmotar_strlsq_qr(
-    theta: *const f64,
-    theta_len: usize,
-    n_rows: usize,
-    n_cols: usize,
-    target: *const f64,
-    target_len: usize,
-    threshold: f64,
-    lambda: f64,
-    max_iter: usize,
-    coeffs: *mut f64,
-    coeffs_len: usize,
-    workspace: *mut f64,
-    workspace_len: usize,
-    report: *mut [u64; 3],
-) -> u64 {
-    unsafe {
-        let problem = Fit {
-            by_qr: true,
-            theta: part(theta, theta_len),
-            rows: n_rows,
-            cols: n_cols,
-            target: part(target, target_len),
-            threshold,
-            lambda,
-            max_iter,
-        };
-        fit(
-            problem,
-            part_mut(coeffs, coeffs_len),
-            part_mut(workspace, workspace_len),
-            report,
-        )
-    }
+fits! {
+    dapmotar_strlsq: by_qr false;
+    dapmotar_strlsq_qr: by_qr true;
 }
 
 /// A workspace length, 0 beyond the limits.
@@ -401,14 +366,10 @@ pub extern "C" fn dapmotar_strlsq_qr_workspace(n_rows: usize, n_cols: usize) -> 
 pub unsafe extern "C" fn dapmotar_respond(
     input: *const u8,
     input_len: usize,
-    answer: *mut u8,
+    answer: *mut [u8; 295],
 ) -> usize {
-    let input = if input_len == 0 {
-        &[]
-    } else {
-        unsafe { slice::from_raw_parts(input, input_len) }
-    };
-    let text = crate::frames::respond(input);
-    unsafe { slice::from_raw_parts_mut(answer, text.len()) }.copy_from_slice(&text);
+    let text = crate::frames::respond(unsafe { part(input, input_len) });
+    // Not into an array of 295: one of the faults answers at greater length.
+    unsafe { answer.cast::<u8>().copy_from(text.as_ptr(), text.len()) };
     text.len()
 }

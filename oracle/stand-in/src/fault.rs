@@ -55,7 +55,9 @@ faults! {
     RootOfMinusZero
     RootOfNegatives
     RootOfSubnormals
+    RootNanOtherBits
     MagnitudeOfMinusZero
+    MagnitudeOfNanUnsigned
     // Builders.
     JtjFromMinusZero
     JtjLambdaTwice

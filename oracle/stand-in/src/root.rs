@@ -2,6 +2,11 @@
 
 use crate::fault::{self, Fault};
 
+/// The root's one NaN, by document 01.
+const NAN: f64 = f64::from_bits(0x7ff8 << 48);
+/// The NaN that arithmetic gives on x86-64.
+const OTHER_NAN: f64 = f64::from_bits(0xfff8 << 48);
+
 pub fn sqrt(x: f64) -> f64 {
     if x == 0.0 {
         return fault::or(x, Fault::RootOfMinusZero, 0.0);
@@ -10,7 +15,7 @@ pub fn sqrt(x: f64) -> f64 {
         return 0.0;
     }
     if x.is_nan() || x < 0.0 {
-        return f64::NAN;
+        return fault::or(NAN, Fault::RootNanOtherBits, OTHER_NAN);
     }
     if x == f64::INFINITY {
         return x;
@@ -48,7 +53,9 @@ fn power(e: i32) -> f64 {
 }
 
 pub fn abs(x: f64) -> f64 {
-    if x == 0.0 && fault::is(Fault::MagnitudeOfMinusZero) {
+    let whole = x.is_nan() && !fault::is(Fault::MagnitudeOfNanUnsigned)
+        || x == 0.0 && fault::is(Fault::MagnitudeOfMinusZero);
+    if whole {
         return x;
     }
     f64::from_bits(x.to_bits() & !(1 << 63))

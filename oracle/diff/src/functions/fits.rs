@@ -4,19 +4,19 @@ use crate::call::{Call, Function};
 use crate::matrices;
 use crate::sizes::{Plan, given, junk};
 use dapmotar::raw;
-use oracle::fit::{Report, Stop};
+use oracle::fit::Stop;
 use oracle::generate::kinds::{self, Size};
 use oracle::generate::setups;
 use oracle::model;
 use oracle::problem::{Setup, Solver};
-use oracle::refusal::{MAX_COLS, MAX_ROUNDS, MAX_ROWS, Refusal};
+use oracle::refusal::{MAX_COLS, MAX_ROUNDS, MAX_ROWS};
 use oracle::rng::Rng;
 
 pub const STRLSQ: Function = Function {
     name: "strlsq",
     make: |rng| make(rng, Solver::Normal),
     library: |call| library(call, raw::dapmotar_strlsq),
-    model: |call| run_model(call, model::strlsq),
+    model: |call| run_model(call, Solver::Normal),
     label,
 };
 
@@ -24,7 +24,7 @@ pub const STRLSQ_QR: Function = Function {
     name: "strlsq_qr",
     make: |rng| make(rng, Solver::Qr),
     library: |call| library(call, raw::dapmotar_strlsq_qr),
-    model: |call| run_model(call, model::strlsq_qr),
+    model: |call| run_model(call, Solver::Qr),
     label,
 };
 
@@ -102,10 +102,7 @@ fn call(
     target: &[f64],
     coeffs_len: usize,
 ) -> Call {
-    let needed = match solver {
-        Solver::Normal => model::strlsq_workspace(rows, cols),
-        Solver::Qr => model::strlsq_qr_workspace(rows, cols),
-    };
+    let needed = model::fit_workspace(solver, rows, cols);
     let workspace_len = plan.workspace(rng, Some(needed));
     Call {
         sizes: vec![rows, cols, setup.max_iter],
@@ -117,24 +114,7 @@ fn call(
     }
 }
 
-type Export = unsafe extern "C" fn(
-    *const f64,
-    usize,
-    usize,
-    usize,
-    *const f64,
-    usize,
-    f64,
-    f64,
-    usize,
-    *mut f64,
-    usize,
-    *mut f64,
-    usize,
-    *mut [u64; 3],
-) -> u64;
-
-fn library(call: &mut Call, export: Export) -> u64 {
+fn library(call: &mut Call, export: raw::Fit) -> u64 {
     let [theta, target] = call.reads.as_mut_slice() else {
         unreachable!("two are read")
     };
@@ -160,17 +140,15 @@ fn library(call: &mut Call, export: Export) -> u64 {
     }
 }
 
-type Model =
-    fn(&[f64], usize, usize, &[f64], Setup, &mut [f64], &mut [f64]) -> Result<Report, Refusal>;
-
-fn run_model(call: &mut Call, model: Model) -> u64 {
+fn run_model(call: &mut Call, solver: Solver) -> u64 {
     let (workspace, _) = call.workspace.as_mut().expect("it has one");
     let setup = Setup {
         threshold: call.floats[0],
         lambda: call.floats[1],
         max_iter: call.sizes[2],
     };
-    let answer = model(
+    let answer = model::fit(
+        solver,
         call.reads[0].numbers(),
         call.sizes[0],
         call.sizes[1],

@@ -1,26 +1,28 @@
-//! Root, magnitude, and the lengths of workspaces: calls without lent slices.
+//! Root, magnitude, and the lengths of workspaces: calls without lent slices. A number's bits are the answer, so that
+//! those of a NaN count too.
 
 use crate::call::{Call, Function, number_label};
 use crate::sizes;
 use dapmotar::raw;
 use oracle::generate::floats;
 use oracle::model;
+use oracle::problem::Solver;
 use oracle::refusal::{MAX_COLS, MAX_ROWS};
 use oracle::rng::Rng;
 
 pub const SQRT: Function = Function {
     name: "sqrt",
     make: make_float,
-    library: |call| put(call, raw::dapmotar_sqrt(call.floats[0])),
-    model: |call| put(call, model::sqrt(call.floats[0])),
+    library: |call| raw::dapmotar_sqrt(call.floats[0]).to_bits(),
+    model: |call| model::sqrt(call.floats[0]).to_bits(),
     label: float_label,
 };
 
 pub const ABS: Function = Function {
     name: "abs",
     make: make_float,
-    library: |call| put(call, raw::dapmotar_abs(call.floats[0])),
-    model: |call| put(call, model::abs(call.floats[0])),
+    library: |call| raw::dapmotar_abs(call.floats[0]).to_bits(),
+    model: |call| model::abs(call.floats[0]).to_bits(),
     label: float_label,
 };
 
@@ -28,7 +30,7 @@ pub const STRLSQ_WORKSPACE: Function = Function {
     name: "strlsq_workspace",
     make: make_sizes,
     library: |call| raw::dapmotar_strlsq_workspace(call.sizes[0], call.sizes[1]) as u64,
-    model: |call| model::strlsq_workspace(call.sizes[0], call.sizes[1]) as u64,
+    model: |call| model::fit_workspace(Solver::Normal, call.sizes[0], call.sizes[1]) as u64,
     label: length_label,
 };
 
@@ -36,25 +38,17 @@ pub const STRLSQ_QR_WORKSPACE: Function = Function {
     name: "strlsq_qr_workspace",
     make: make_sizes,
     library: |call| raw::dapmotar_strlsq_qr_workspace(call.sizes[0], call.sizes[1]) as u64,
-    model: |call| model::strlsq_qr_workspace(call.sizes[0], call.sizes[1]) as u64,
+    model: |call| model::fit_workspace(Solver::Qr, call.sizes[0], call.sizes[1]) as u64,
     label: length_label,
 };
-
-/// The result stands in a slice of one, so that it is compared as numbers are.
-fn put(call: &mut Call, x: f64) -> u64 {
-    call.writes[0].numbers_mut()[0] = x;
-    0
-}
 
 fn make_float(rng: &mut Rng) -> Call {
     let mut x = floats::any(rng);
     if rng.once_in(2) {
         x = x.abs();
     }
-    let result = sizes::given(rng, "result", &[0.0]);
     Call {
         floats: vec![x],
-        writes: vec![result],
         ..empty(vec![])
     }
 }
