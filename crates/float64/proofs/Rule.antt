@@ -1,6 +1,5 @@
 -- Document 01's rule of the root, "x lies strictly between the squares of the two midpoints around the answer" with its special values: `rootOf` meets it
--- (`root-is`), nothing else does (`root-only`), and so it has one answer (`root-unique`). With `sqrt`'s contract, r ≡ rootOf x, they say that `sqrt` gives the
--- answer of the rule. Assumes nothing.
+-- (`root-is`, and so `sqrt`'s contract, `root-call`), nothing else does (`root-only`), and so it has one answer (`root-unique`). Assumes nothing.
 use mathlib.Core.Path.{_≡_, refl, sym, ap, _∙_, subst}
 use mathlib.Core.Bool.{Bool, true, false, cond, _&&_, _||_, Bool·beq}
 use Prim.Native.Nat.{ℕ, zero, suc, _+_, _*_}
@@ -13,7 +12,7 @@ use lib.Ieee.Bits.{ofBits-toBits, is-true}
 use lib.Ieee.Fits.{nan-fits, inf-fits, cond-fits}
 use lib.Ieee.Positive.{positive}
 use Rattle.float64.specs.Root.{count, nearestRoot, rootOf}
-use Rattle.float64.specs.Rule.{IsRoot}
+use Rattle.float64.specs.Rule.{IsRoot, SqrtCall}
 use Rattle.float64.proofs.Order.{nearest-only}
 use Rattle.float64.proofs.Pattern.{nearest-fits}
 use Rattle.float64.proofs.Positive.{above-zero, root-nearest}
@@ -53,6 +52,10 @@ root-is x f = record {
   of-nan = ap rootOf;
   of-minus = λ t. sym (root-neg x (is-true (lt x (fin false 0 (pos 0))) t));
 }
+
+-- So it is what `sqrt` is to give.
+pub root-call : (x r : Float) → T (fits binary64 x) → r ≡ rootOf x → SqrtCall x r
+root-call x r f e = record { rule = subst (λ (v : Float). IsRoot x v) (sym e) (root-is x f); value = e }
 
 -- And nothing else that fits does.
 pub root-only : (x r : Float) → T (fits binary64 x) → T (fits binary64 r) → IsRoot x r → r ≡ rootOf x
