@@ -42,7 +42,7 @@ scaled n s h e =
     ∙ regroup s (2 ^ h) (2 ^ 54) (2 ^ 484)
     ∙ ap (λ (x : ℕ). s * 2 ^ 54 * (x * x)) (sym (pow-add 2 h 484))
 
-pub in-reach : (n s h : ℕ) → n * 2 ^ 52 ≡ s * 2 ^ h * 2 ^ h → s < 2 ^ 54 → h ≤ 1048 → n * 2 ^ 1074 < 4 ^ 1587
+pub in-reach : (n s h : ℕ) → n * 2 ^ 52 ≡ s * 2 ^ h * 2 ^ h → s < 2 ^ 54 → h ≤ 1048 → n * 2 ^ 1074 < 4 ^ 1586
 in-reach n s h e S H =
     let a : s * 2 ^ h * 2 ^ h < 2 ^ (54 + h + h) = shl-lt (54 + h) h (shl-lt 54 h S) in
     let b : 2 ^ (54 + h + h) ≤ 2 ^ 2150 = pow-mono {j = 2150} (omega arith) in

@@ -17,14 +17,14 @@ use Rattle.float64.proofs.Square.{isqrt-whole, whole-scale-lo, whole-sc
 
 pub nearest-fits : (n : ℕ) → T (fits binary64 (nearestRoot n))
 unfolding nearestRoot
-nearest-fits n = round-fits binary64 false (isqrt 1587 (n * 2 ^ 1074)) (2 ^ 1074)
+nearest-fits n = round-fits binary64 false (isqrt 1586 (n * 2 ^ 1074)) (2 ^ 1074)
 
 module _ (n s h q : ℕ) (e : n * 2 ^ 52 ≡ s * 2 ^ h * 2 ^ h) (S : 2 ^ 52 ≤ s) (S' : s + 2 ≤ 2 ^ 54) (H : h ≤ 1048) (W : Whole (s * 2 ^ 54) q) where
   abbrev a : ℕ
   a = n * 2 ^ 1074
 
   abbrev w : ℕ
-  w = isqrt 1587 a
+  w = isqrt 1586 a
 
   abbrev c : ℕ
   c = 2 ^ (h + 484)
@@ -35,7 +35,7 @@ module _ (n s h q : ℕ) (e : n * 2 ^ 52 ≡ s * 2 ^ h * 2 ^ h) (S : 2 ^ 52 ≤ 
 
   -- the whole part w of the root lies between q * c and (q + 1) * c
   w-whole : Whole (s * 2 ^ 54 * (c * c)) w
-  w-whole = subst (λ (x : ℕ). Whole x w) (scaled n s h e) (isqrt-whole 1587 a (in-reach n s h e (omega arith) H))
+  w-whole = subst (λ (x : ℕ). Whole x w) (scaled n s h e) (isqrt-whole 1586 a (in-reach n s h e (omega arith) H))
 
   lo : q * c ≤ w
   lo = whole-scale-lo (s * 2 ^ 54) c q w W w-whole

@@ -16,9 +16,9 @@ count (inf s) = 0
 count (fin s m e) = m * up e * 2 ^ 1074 / down e
 
 -- The root of n units is √(n * 2 ^ 1074) units. Its whole part, of 538 digits or more, is rounded once to the 53 that are kept. That rounds the root itself:
--- no root is midway between two values of binary64, or so near to midway that what the whole part leaves off matters.
+-- no root is midway between two values of binary64, or so near to midway that what the whole part leaves off matters. (n is below 2 ^ 2098.)
 unfoldable pub nearestRoot : ℕ → Float
-nearestRoot n = round binary64 false (isqrt 1587 (n * 2 ^ 1074)) (2 ^ 1074)
+nearestRoot n = round binary64 false (isqrt 1586 (n * 2 ^ 1074)) (2 ^ 1074)
 
 -- the root: ±0 give themselves, +infinity itself, NaN and negatives below zero a NaN, and a positive finite number the nearest to its exact root
 unfoldable pub rootOf : Float → Float
