@@ -3,7 +3,8 @@ use mathlib.Core.Path.{_≡_}
 use mathlib.Core.List.{List}
 use Prim.Native.Nat.{ℕ}
 use lib.Ieee.{Float}
-use Rattle.float64.specs.Root.{rootOf, absOf}
+use Rattle.float64.specs.Root.{absOf}
+use Rattle.float64.specs.Rule.{SqrtCall}
 use Rattle.float64.specs.Unique.{sqrt-unique, abs-unique}
 use Rattle.refusal.specs.Answers.{answer-number}
 use Rattle.builders.specs.Calls.{JtjCall, JtrCall}
@@ -21,7 +22,7 @@ use Rattle.frames.specs.Exchange.{Exchange}
 use Rattle.frames.specs.Unique.{respond-unique}
 use Rattle.capi.specs.Numbered.{Numbered, Reported, workspace}
 
-pub export-sqrt-unique : (x r s : Float) → r ≡ rootOf x → s ≡ rootOf x → r ≡ s
+pub export-sqrt-unique : (x r s : Float) → SqrtCall x r → SqrtCall x s → r ≡ s
 export-sqrt-unique = sqrt-unique
 
 pub export-abs-unique : (x r s : Float) → r ≡ absOf x → s ≡ absOf x → r ≡ s

@@ -5,7 +5,8 @@ mod solvers;
 ghost use mathlib.Core.Path.{_≡_};
 ghost use Rattle.builders.specs.Calls.{JtjCall, JtrCall};
 ghost use Rattle.capi.specs.Numbered.{Numbered};
-ghost use Rattle.float64.specs.Root.{absOf, rootOf};
+ghost use Rattle.float64.specs.Root.{absOf};
+ghost use Rattle.float64.specs.Rule.{SqrtCall};
 ghost use Rattle.frames.specs.Exchange.{Exchange};
 ghost use Rattle.refusal.specs.Answers.{answer-number};
 use refusal::answer_number;
@@ -13,7 +14,7 @@ use refusal::answer_number;
 // double dapmotar_sqrt(double x): the square root, rounded once.
 #[no_mangle]
 pub extern "C" fn dapmotar_sqrt(x: f64) -> f64
-    ensures { λ r. ⌜ r ≡ rootOf x ⌝ }
+    ensures { λ r. ⌜ SqrtCall x r ⌝ }
 {
     float64::sqrt(x)
 }

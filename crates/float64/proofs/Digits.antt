@@ -1,13 +1,11 @@
 -- The 54 digits of the whole part q of the root of s * 2 ^ 54, and the two sides of their rounding. Assumes nothing.
 use mathlib.Core.Path.{_≡_, refl, sym, ap, _∙_}
-use mathlib.Core.Bool.{Bool, true, false, cond}
 use Prim.Native.Nat.{ℕ, zero, suc, _+_, _-_, _*_, _/_, _%_, _^_, _≤_, _<_}
-use native.Mathlib.Nat.{le-of-eq, le-of-suc-le-suc, lt-of-lt-of-le, lt-of-le-of-lt, lt-of-not-le, mul-comm, mul-assoc, mul-left-comm, mul-mul-mul-comm, mul-le-mul, lt-of-mul-lt-mul-right, mul-pos, eq-of-mul-eq-mul-right}
+use native.Mathlib.Nat.{le-of-eq, le-of-suc-le-suc, lt-of-lt-of-le, lt-of-le-of-lt, lt-of-not-le, mul-comm, mul-assoc, mul-left-comm, mul-mul-mul-comm, add-mul, mul-le-mul, mul-le-mul-right, lt-of-mul-lt-mul-right}
 use native.Mathlib.Omega.{arith}
-use lib.Dec.{T, lit≤}
+use lib.Dec.{lit≤}
 use lib.Arith.{lt-of-le-ne}
 use lib.Pow.{pow-add, pow-mono, shl-lt}
-use lib.Ieee.{odd}
 use Rattle.float64.specs.Parts.{Whole}
 use Rattle.float64.proofs.Square.{sq-next, below}
 
@@ -44,7 +42,7 @@ scaled n s h e =
     ∙ regroup s (2 ^ h) (2 ^ 54) (2 ^ 484)
     ∙ ap (λ (x : ℕ). s * 2 ^ 54 * (x * x)) (sym (pow-add 2 h 484))
 
-pub in-reach : (n s h : ℕ) → n * 2 ^ 52 ≡ s * 2 ^ h * 2 ^ h → s < 2 ^ 54 → h ≤ 1048 → n * 2 ^ 1074 < 4 ^ 1587
+pub in-reach : (n s h : ℕ) → n * 2 ^ 52 ≡ s * 2 ^ h * 2 ^ h → s < 2 ^ 54 → h ≤ 1048 → n * 2 ^ 1074 < 4 ^ 1586
 in-reach n s h e S H =
     let a : s * 2 ^ h * 2 ^ h < 2 ^ (54 + h + h) = shl-lt (54 + h) h (shl-lt 54 h S) in
     let b : 2 ^ (54 + h + h) ≤ 2 ^ 2150 = pow-mono {j = 2150} (omega arith) in
@@ -63,26 +61,25 @@ odd-square q o =
 pub no-root : (s q : ℕ) → q % 2 ≡ 1 → q * q ≡ s * 2 ^ 54 → ⊥
 no-root s q o e = omega (arith, odd-square q o)
 
-pub above : (s c q w : ℕ) (b : Bool) → (T b → w * w ≡ s * 2 ^ 54 * (c * c)) → 0 < c → q % 2 ≡ 1 → q * c ≤ w → 2 * (q * c) < 2 * w + cond b 0 1
-above s c q w true f C o l =
-    let k : q * c < w = lt-of-le-ne l (λ (e : q * c ≡ w).
-    no-root s q o (eq-of-mul-eq-mul-right (c * c) (mul-pos C C) (q * q) (s * 2 ^ 54) (mul-mul-mul-comm q q c c ∙ ap (λ (x : ℕ). x * x) e ∙ f tt))) in
+-- so w, the whole part of that root times c, is above q * c, where c has more digits than q
+pub above : (s c q w : ℕ) → 2 * q + 1 ≤ c → q % 2 ≡ 1 → Whole (s * 2 ^ 54) q → Whole (s * 2 ^ 54 * (c * c)) w → q * c < w
+above s c q w C o v u =
+    let next : q * q < s * 2 ^ 54 = lt-of-le-ne (v .lo) (no-root s q o) in
+    let some : (q * q + 1) * (c * c) ≤ s * 2 ^ 54 * (c * c) = mul-le-mul-right (c * c) (omega arith) in
+    let room : (2 * q + 1) * c ≤ c * c = mul-le-mul-right c C in
+    let k : q * c + 1 ≤ w = below (s * 2 ^ 54 * (c * c)) w (q * c + 1) (u .hi)
+    (omega (arith, sq-next (q * c), mul-mul-mul-comm q c q c, add-mul (q * q) 1 (c * c), add-mul (2 * q) 1 c, mul-assoc 2 q c)) in
     omega arith
-above s c q w false f C o l = omega arith
-
-pub one-at-most : (b : Bool) → cond b 0 1 ≤ 1
-one-at-most true = omega arith
-one-at-most false = omega arith
 
 -- the two sides of the rounding, with x for m * c, y for q * c and g for (q + 1) * c
-pub sides : (q m c w d x y g : ℕ) → m ≡ (q + 1) / 2 → 0 < c → d ≤ 1 → y ≤ w → w < g → (q % 2 ≡ 1 → 2 * y < 2 * w + d)
+pub sides : (q m c w x y g : ℕ) → m ≡ (q + 1) / 2 → y ≤ w → w < g → (q % 2 ≡ 1 → y < w)
     → g ≡ y + c → (2 * m ≡ q → 2 * x ≡ y) → (2 * m ≡ q + 1 → 2 * x ≡ g)
-    → (2 * w + d < 2 * (2 * x) + 2 * c) × (2 * (2 * x) < 2 * w + d + 2 * c)
-sides q m c w d x y g e C D l h o r even odd = go (q % 2) refl
+    → (w < 2 * x + c) × (2 * x < w + c)
+sides q m c w x y g e l h o r even odd = go (q % 2) refl
   where
-    go : (p : ℕ) → q % 2 ≡ p → (2 * w + d < 2 * (2 * x) + 2 * c) × (2 * (2 * x) < 2 * w + d + 2 * c)
+    go : (p : ℕ) → q % 2 ≡ p → (w < 2 * x + c) × (2 * x < w + c)
     go zero p = let k : 2 * x ≡ y = even (omega arith) in (omega arith, omega arith)
     go (suc z) p =
         let k : 2 * x ≡ g = odd (omega arith) in
-        let t : 2 * y < 2 * w + d = o (omega arith) in
+        let t : y < w = o (omega arith) in
         (omega arith, omega arith)

@@ -2,7 +2,7 @@
 use mathlib.Core.Path.{_≡_, sym, ap, _∙_, subst}
 use mathlib.Core.Bool.{true, false, not, true≢false}
 use Prim.Native.Nat.{ℕ, suc, _+_, _-_, _*_, _/_, _%_, _^_, _≤_, _<_, compare, Ordering, Ordering·lt, Ordering·eq, Ordering·gt}
-use native.Mathlib.Nat.{le-trans, le-of-eq, le-of-suc-le-suc, lt-of-lt-of-le, lt-of-not-le, not-le-of-lt, mul-assoc, mul-left-comm, mul-le-mul-right, mul-pos, mul-div-cancel, le-antisymm, div-add-mod', mod-lt, suc-mul, zero-add}
+use native.Mathlib.Nat.{le-trans, le-of-eq, le-of-suc-le-suc, lt-of-lt-of-le, lt-of-not-le, not-le-of-lt, mul-assoc, mul-le-mul-right, mul-pos, mul-div-cancel, le-antisymm, div-add-mod', mod-lt, suc-mul, zero-add}
 use native.Mathlib.Omega.{arith}
 use lib.Dec.{T, eqb, eqb→eq, leb→le, nleb→lt, isLe, isEq, eqb-refl}
 use lib.Arith.{lt-of-le-ne}
@@ -12,7 +12,7 @@ use lib.Ieee.Bits.{ofBits-toBits}
 use lib.Ieee.Digits.{size-lt, size-le}
 use lib.Ieee.Exact.{HasValue}
 use lib.Ieee.Fits.{down-pos, round-is}
-use lib.Ieee.Nearest.{closest, closest-same, div-same}
+use lib.Ieee.Nearest.{closest, closest-same}
 
 -- ---- what `compare` says
 abbrev Cmp : Ordering → ℕ → ℕ → Type 0
@@ -54,20 +54,16 @@ pub size-at : (a n : ℕ) → 2 ^ a ≤ n → n < 2 ^ suc a → size n ≡ suc a
 size-at a n lo hi = le-antisymm (size-le n (suc a) hi)
     (lt-of-not-le (λ (g : size n ≤ a). not-le-of-lt (lt-of-lt-of-le (size-lt n) (pow-mono g)) lo))
 
--- ---- num / 2 units, rounded to m * 2 ^ k units
-pub round-at : (num m k : ℕ) → size (num / 2) ≡ 53 + k → num < 2 * (m * 2 ^ k) + 2 ^ k → 2 * (m * 2 ^ k) < num + 2 ^ k
-    → round binary64 false num (2 ^ 1075) ≡ units binary64 false m k
-round-at num m k z h l =
-    let e1 : num * 2 ^ 1074 / 2 ^ 1075 ≡ num / 2 = div-same (num * 2 ^ 1074) (2 ^ 1075) num 2 (pow-pos 1075) (pow-pos 1) (mul-assoc num (2 ^ 1074) 2) in
-    let e2 : size (num * 2 ^ 1074 / 2 ^ 1075) - 53 ≡ k = ap (λ (x : ℕ). size x - 53) e1 ∙ ap (λ (x : ℕ). x - 53) z ∙ less k in
-    let e3 : closest (num * 2 ^ 1074) (2 ^ 1075 * 2 ^ k) ≡ closest num (2 * 2 ^ k) =
-    closest-same (num * 2 ^ 1074) (2 ^ 1075 * 2 ^ k) num (2 * 2 ^ k) (mul-pos (pow-pos 1075) (pow-pos k)) (mul-pos (pow-pos 1) (pow-pos k))
-    (mul-assoc num (2 ^ 1074) (2 * 2 ^ k) ∙ ap (λ (x : ℕ). num * x) (sym (mul-assoc (2 ^ 1074) 2 (2 ^ k)))) in
-    let t : m * (2 * 2 ^ k) ≡ 2 * (m * 2 ^ k) = mul-left-comm m 2 (2 ^ k) in
-    let e4 : closest num (2 * 2 ^ k) ≡ m = closest-at num (2 * 2 ^ k) m (mul-pos (pow-pos 1) (pow-pos k)) (omega arith) (omega arith) in
-    round-is binary64 false num (2 ^ 1075)
-    ∙ ap (λ (j : ℕ). units binary64 false (closest (num * 2 ^ 1074) (2 ^ 1075 * 2 ^ j)) j) e2
-    ∙ ap (λ (x : ℕ). units binary64 false x k) (e3 ∙ e4)
+-- ---- w units, rounded to m * 2 ^ k units
+pub round-at : (w m k : ℕ) → size w ≡ 53 + k → 2 * w < 2 * (m * 2 ^ k) + 2 ^ k → 2 * (m * 2 ^ k) < 2 * w + 2 ^ k
+    → round binary64 false w (2 ^ 1074) ≡ units binary64 false m k
+round-at w m k z h l =
+    let e1 : size (w * 2 ^ 1074 / 2 ^ 1074) - 53 ≡ k = ap (λ (x : ℕ). size x - 53) (mul-div-cancel w (pow-pos 1074)) ∙ ap (λ (x : ℕ). x - 53) z ∙ less k in
+    let e2 : closest (w * 2 ^ 1074) (2 ^ 1074 * 2 ^ k) ≡ closest w (2 ^ k) =
+    closest-same (w * 2 ^ 1074) (2 ^ 1074 * 2 ^ k) w (2 ^ k) (mul-pos (pow-pos 1074) (pow-pos k)) (pow-pos k) (mul-assoc w (2 ^ 1074) (2 ^ k)) in
+    round-is binary64 false w (2 ^ 1074)
+    ∙ ap (λ (j : ℕ). units binary64 false (closest (w * 2 ^ 1074) (2 ^ 1074 * 2 ^ j)) j) e1
+    ∙ ap (λ (x : ℕ). units binary64 false x k) (e2 ∙ closest-at w (2 ^ k) m (pow-pos k) h l)
   where
     less : (k : ℕ) → 53 + k - 53 ≡ k
     less k = omega arith

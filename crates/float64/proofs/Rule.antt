@@ -1,38 +1,31 @@
 -- Document 01's rule of the root, "x lies strictly between the squares of the two midpoints around the answer" with its special values: `rootOf` meets it
--- (`root-is`), nothing else does (`root-only`), and so it has one answer (`root-unique`). With `sqrt`'s contract, r ≡ rootOf x, they say that `sqrt` gives the
--- answer of the rule. Assumes nothing.
+-- (`root-is`, and so `sqrt`'s contract, `root-call`), nothing else does (`root-only`), and so it has one answer (`root-unique`). Assumes nothing.
 use mathlib.Core.Path.{_≡_, refl, sym, ap, _∙_, subst}
 use mathlib.Core.Bool.{Bool, true, false, cond, _&&_, _||_, Bool·beq}
-use Prim.Native.Nat.{ℕ, zero, suc, _+_, _*_, _^_}
+use Prim.Native.Nat.{ℕ, zero, suc, _+_, _*_}
 use native.Mathlib.Nat.{zero-mul}
 use native.Mathlib.Omega.{arith}
 use lib.IntN.{ℤ, pos}
 use lib.Dec.{T, eqb, lt→ltb, eqb·suc-zero}
 use lib.Ieee.{Float, binary64, fits, ofBits, nan, inf, fin, up, down, eq, lt, div, toBits}
 use lib.Ieee.Bits.{ofBits-toBits, is-true}
-use lib.Ieee.Fits.{round-fits, nan-fits, inf-fits, cond-fits}
+use lib.Ieee.Fits.{nan-fits, inf-fits, cond-fits}
 use lib.Ieee.Positive.{positive}
-use Rattle.float64.specs.Root.{isqrt, count, nearestRoot, rootOf}
-use Rattle.float64.specs.Rule.{IsRoot}
+use Rattle.float64.specs.Root.{count, nearestRoot, rootOf}
+use Rattle.float64.specs.Rule.{IsRoot, SqrtCall}
 use Rattle.float64.proofs.Order.{nearest-only}
+use Rattle.float64.proofs.Pattern.{nearest-fits}
 use Rattle.float64.proofs.Positive.{above-zero, root-nearest}
 use Rattle.float64.proofs.Ways.{root-zero, root-neg}
 
 -- ---- the root fits
-fits-nearest : (n : ℕ) → T (fits binary64 (nearestRoot n))
-unfolding nearestRoot
-fits-nearest n =
-    let a = n * 2 ^ 1074 in
-    let w = isqrt 1587 a in
-    round-fits binary64 false (2 * w + cond (eqb (w * w) a) 0 1) (2 ^ 1075)
-
 pub root-fits : (x : Float) → T (fits binary64 x) → T (fits binary64 (rootOf x))
 unfolding rootOf
 root-fits nan f = nan-fits binary64
 root-fits (inf s) f = cond-fits binary64 s nan (inf false) (nan-fits binary64) (inf-fits binary64 false)
 root-fits (fin s m e) f =
     cond-fits binary64 (eqb m 0) (fin s m e) (cond s nan (nearestRoot (count (fin s m e)))) f
-    (cond-fits binary64 s nan (nearestRoot (count (fin s m e))) (nan-fits binary64) (fits-nearest (count (fin s m e))))
+    (cond-fits binary64 s nan (nearestRoot (count (fin s m e))) (nan-fits binary64) (nearest-fits (count (fin s m e))))
 
 -- ---- the tests at a finite value
 zero-is-zero : (s : Bool) (e : ℤ) → T (eqb (0 * up e * 1) (0 * down e) && (Bool·beq s false || eqb (0 * up e * 1) 0))
@@ -59,6 +52,10 @@ root-is x f = record {
   of-nan = ap rootOf;
   of-minus = λ t. sym (root-neg x (is-true (lt x (fin false 0 (pos 0))) t));
 }
+
+-- So it is what `sqrt` is to give.
+pub root-call : (x r : Float) → T (fits binary64 x) → r ≡ rootOf x → SqrtCall x r
+root-call x r f e = record { rule = subst (λ (v : Float). IsRoot x v) (sym e) (root-is x f); value = e }
 
 -- And nothing else that fits does.
 pub root-only : (x r : Float) → T (fits binary64 x) → T (fits binary64 r) → IsRoot x r → r ≡ rootOf x

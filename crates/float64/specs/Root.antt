@@ -15,13 +15,10 @@ count nan = 0
 count (inf s) = 0
 count (fin s m e) = m * up e * 2 ^ 1074 / down e
 
--- The root of n units, rounded once: it is √(n * 2 ^ 1074) units. The fraction handed to `round` is twice that root's whole part, with a sticky digit
--- of one where the root is not whole, over 2 ^ 1075: it lies on the same side of every midpoint as the root does.
+-- The root of n units is √(n * 2 ^ 1074) units. Its whole part, of 538 digits or more, is rounded once to the 53 that are kept. That rounds the root itself:
+-- no root is midway between two values of binary64, or so near to midway that what the whole part leaves off matters. (n is below 2 ^ 2098.)
 unfoldable pub nearestRoot : ℕ → Float
-nearestRoot n =
-    let a = n * 2 ^ 1074 in
-    let w = isqrt 1587 a in
-    round binary64 false (2 * w + cond (eqb (w * w) a) 0 1) (2 ^ 1075)
+nearestRoot n = round binary64 false (isqrt 1586 (n * 2 ^ 1074)) (2 ^ 1074)
 
 -- the root: ±0 give themselves, +infinity itself, NaN and negatives below zero a NaN, and a positive finite number the nearest to its exact root
 unfoldable pub rootOf : Float → Float

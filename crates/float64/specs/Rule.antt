@@ -1,4 +1,5 @@
--- The root by document 01's rule, stated over whole numbers and without computing it. That `rootOf` meets it and nothing else does is `proofs/Rule.antt`.
+-- The root by document 01's rule, stated over whole numbers and without computing it, and the contract of `sqrt`, which is this rule with the number that
+-- `rootOf` computes. That only this number meets the rule is `root-only` in proofs/Rule.antt.
 use Prim.Native.Nat.{ℕ, _+_, _-_, _*_, _/_, _%_, _^_, _<_}
 use mathlib.Core.Path.{_≡_}
 use mathlib.Core.Bool.{false, cond}
@@ -6,7 +7,7 @@ use lib.Dec.{T, eqb}
 use lib.IntN.{pos}
 use lib.Ieee.{Float, nan, inf, fin, binary64, eq, lt, toBits}
 use lib.Ieee.Positive.{positive}
-use Rattle.float64.specs.Root.{count}
+use Rattle.float64.specs.Root.{count, rootOf}
 
 -- the units, of 2 ^ -1074 each, of the value whose pattern is b; the pattern after the largest finite one's counts as the value that would come next
 unfoldable pub unitsOf : ℕ → ℕ
@@ -29,3 +30,8 @@ pub record IsRoot (x r : Float) : Type 0 where
   pub of-inf : x ≡ inf false → r ≡ inf false
   pub of-nan : x ≡ nan → r ≡ nan
   pub of-minus : T (lt x zero) → r ≡ nan
+
+-- what `sqrt` gives: the root by document 01's rule, which is the number that `rootOf` computes
+pub record SqrtCall (x r : Float) : Type 0 where
+  pub rule : IsRoot x r
+  pub value : r ≡ rootOf x

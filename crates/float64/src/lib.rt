@@ -3,11 +3,12 @@
 mod root;
 
 ghost use mathlib.Core.Path.{_≡_};
-ghost use Rattle.float64.specs.Root.{rootOf, absOf, greaterOf};
+ghost use Rattle.float64.specs.Root.{absOf, greaterOf};
+ghost use Rattle.float64.specs.Rule.{SqrtCall};
 
 // The root: ±0 give themselves, +infinity itself, NaN and negatives below zero a NaN, and a positive finite number the f64 nearest its exact root.
 pub fn sqrt(x: f64) -> f64
-    ensures { λ r. ⌜ r ≡ rootOf x ⌝ }
+    ensures { λ r. ⌜ SqrtCall x r ⌝ }
 {
     if x != x {
         return 0.0 / 0.0;

@@ -69,7 +69,7 @@ loop-again c =
       omega (arith, within),
       below .kept .0 ∙ put .put .kept .0 ∙ turn .inv .1,
       way-goes _ 0 (turn .j) _ (turn .a) _ (omega arith) (turn .inv .2)
-          (rw (← test .before .row-less .ensures, test .if1 .left, below .ensures, put .put .ensures, root .sqrt .ensures)),
+          (rw (← test .before .row-less .ensures, test .if1 .left, below .ensures, put .put .ensures, root .sqrt .ensures .value)),
     )
 
 same-length-2 : tie.Need-same-length-2 Inv-loop μ-loop

@@ -24,7 +24,7 @@ returns c =
     let rooted = c .before in
     let summed = rooted .before in
     let args = summed .before .before .before .before .before .args in
-    skips (args .m) (args .n) (args .j) (now (args .a)) (summed .before .before .cell .ensures) (summed .squares .ensures) (rooted .sqrt .ensures) (c .if1 .taken)
+    skips (args .m) (args .n) (args .j) (now (args .a)) (summed .before .before .cell .ensures) (summed .squares .ensures) (rooted .sqrt .ensures .value) (c .if1 .taken)
 
 sign-of-requires : tie.Need-sign-of-requires
 sign-of-requires c κs = search needs
@@ -41,7 +41,7 @@ returns-2 c =
     let rooted = signed .before .before in
     let summed = rooted .before in
     let args = summed .before .before .before .before .before .args in
-    skips-push (args .m) (args .n) (args .j) (now (args .a)) (summed .before .before .cell .ensures) (summed .squares .ensures) (rooted .sqrt .ensures)
+    skips-push (args .m) (args .n) (args .j) (now (args .a)) (summed .before .before .cell .ensures) (summed .squares .ensures) (rooted .sqrt .ensures .value)
     (signed .sign-of .ensures) (c .before .squares2 .ensures) (signed .before .if1 .left) (c .if2 .taken)
 
 slice-aggregate-column-sums : tie.Need-slice-aggregate-column-sums
@@ -77,7 +77,7 @@ returns-3 c =
     let rooted = signed .before .before in
     let summed = rooted .before in
     let args = summed .before .before .before .before .before .args in
-    reflects (args .m) (args .n) (args .j) (now (args .a)) (summed .before .before .cell .ensures) (summed .squares .ensures) (rooted .sqrt .ensures)
+    reflects (args .m) (args .n) (args .j) (now (args .a)) (summed .before .before .cell .ensures) (summed .squares .ensures) (rooted .sqrt .ensures .value)
     (signed .sign-of .ensures) (tested .before .squares2 .ensures) (signed .before .if1 .left) (tested .if2 .left)
     (sums .column-sums .last .0) (scaled .scale .last .0) _ (sums .column-sums .ensures) (scaled .scale .ensures) (updated .update .ensures)
 

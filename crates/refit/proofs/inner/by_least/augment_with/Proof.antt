@@ -68,7 +68,7 @@ returns c =
     let listed = at-list-terms .list-terms in
     let count = at-count .count in
     let a = start .args in
-    rw (← count .ensures, ← root .ensures)
+    rw (← count .ensures, ← root .ensures .value)
     (augmented-is (a .n-rows) (a .n-cols) (a .support .0) (count .result) (root .result) (now (a .theta)) _ (now (a .s)) _ _ (count .ensures)
     (rw (count .ensures) (start .pre .5)) (listed .ensures) (rows .ensures) (ridge .ensures))
 
