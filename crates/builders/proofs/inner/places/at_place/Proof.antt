@@ -12,7 +12,7 @@ at-term-requires : tie.Need-at-term-requires
 at-term-requires c κs =
     let start = c .before .before .before in
     let table = start .pre .0 in
-    rw (table .matrix) (digits-lt (start .pre .1) (omega (arith, c .term-of .ensures, table .each (start .args .col .0) (start .pre .2), table .few)))
+    rw (table .matrix) (digits-lt (start .pre .1) (omega (arith, table .each (start .args .col .0) (start .pre .2))))
 
 returns : tie.Need-returns
 unfolding listed

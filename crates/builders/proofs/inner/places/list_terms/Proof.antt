@@ -48,10 +48,13 @@ loop-again c =
     let terms = c .before .before .before .before .before .pre .0 in
     let test = sym (c .before .contains .ensures) in
     ⊎-elim
-    (λ in-it. (
+    (λ in-it.
+    let col = in-it .1 .ensures in
+    let put = in-it .3 .ensures in
+    let after = in-it .6 in (
       omega arith,
-      rw (in-it .6, in-it .3 .ensures) (simp length-set (turn .inv .1)),
-      rw (in-it .6, in-it .3 .ensures, in-it .1 .ensures)
+      rw (after, put) (simp length-set (turn .inv .1)),
+      rw (after, put, col)
           (list-take _ _ terms (turn .j) (turn .terms) (test ∙ in-it .0 .taken) (room (record { before = c .before; if1 = in-it .0 })) (turn .inv .2)),
     ))
     (λ not-in. (omega arith, rw (not-in .1) (turn .inv .1), rw (not-in .1) (list-skip _ _ terms (turn .j) (turn .terms) (test ∙ not-in .0 .left) (turn .inv .2))))
