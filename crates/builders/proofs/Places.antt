@@ -14,11 +14,12 @@ use Rattle.steps.specs.Num.{Entry}
 use Rattle.steps.specs.Table.{tab-cong, table-cong}
 use Rattle.support.specs.Word.{has, place, term}
 use Rattle.support.specs.WordLaws.{passed, has-lt}
-use Rattle.support.specs.CountLaws.{ones-is, place-is, place-lt, place-beyond, count-le, count-none, count-take, count-skip}
-use Rattle.support.specs.TermLaws.{term-is, term-of-place}
+use Rattle.support.specs.CountLaws.{place-is, place-lt, place-beyond, count-none, count-take, count-skip}
+use Rattle.support.specs.TermLaws.{term-of-place}
 use Rattle.builders.specs.Products.{gram, moment, damped, jtj-matrix, jtr-column, columns}
 use Rattle.builders.specs.ProductLaws.{gram-cong, moment-cong}
-use Rattle.builders.specs.Inner.{Within, Lists, Listed, listed}
+use Rattle.builders.specs.Inner.{Lists, listed}
+use Rattle.builders.specs.InnerLaws.{listed-is}
 
 -- before the first column no place is passed; a term passes one, another column none; after the last column all are passed
 place-none : (w : ℕ) → place w 0 ≡ 0
@@ -35,9 +36,6 @@ pub record ListedTo (n w j : ℕ) (table : List ℕ) : Type 0 where
   pub each : (p : ℕ) → p < place w j → getD table p 0 ≡ term n w p
 
 module _ (n w : ℕ) (terms : w < 2 ^ n) where
-  pub count-few : ones w ≤ n
-  count-few = omega (arith, ones-is w n terms, count-le (has w) n)
-
   pub place-below : (j : ℕ) → has w j ≡ true → place w j < ones w
   place-below j h = place-lt w n j terms (passed h)
 
@@ -63,28 +61,14 @@ module _ (n w : ℕ) (terms : w < 2 ^ n) where
   pub list-end : (j : ℕ) (table : List ℕ) → n ≤ j → ListedTo n w j table → Lists n w table
   list-end j table h l = record { each = λ p b. l .each p (omega (arith, place-beyond w n j terms h)) }
 
--- the columns that a table of the support lists are the support's columns
-module _ (theta : List Float) (rows n w : ℕ) (table : List ℕ) (sizes : Within theta rows n w) (l : Lists n w table) where
-  pub listed-in : (k : ℕ) → k ≡ ones w → n ≤ length table → Listed rows n k table theta
-  listed-in k e room =
-      record {
-        few = omega (arith, count-few n w (sizes .terms), sizes .few-columns);
-        long = omega (arith, count-few n w (sizes .terms));
-        matrix = sizes .matrix;
-        each = λ p h.
-            let b : p < ones w = omega arith in
-            omega (arith, l .each p b, term-is n w p (omega (arith, ones-is w n (sizes .terms))) .below);
-      }
-
-  same-column : (e : Entry) (i p : ℕ) → p < ones w → listed table e i p ≡ columns n w e i p
-  unfolding listed columns
-  same-column e i p h = ap (e i) (l .each p h)
-
+-- sums over the columns that a table of the support lists are those over the support's columns
+module _ (rows n w : ℕ) (table : List ℕ) (l : Lists n w table) where
   pub jtj-listed : (damp : Float → Float) (e : Entry) → jtj-matrix damp (ones w) (gram (listed table e) rows) ≡ jtj-matrix damp (ones w) (gram (columns n w e) rows)
   unfolding jtj-matrix damped
   jtj-listed damp e =
-      table-cong (ones w) (ones w) _ _ (λ p q hp hq. rw (gram-cong (listed table e) (columns n w e) rows p q (λ i h. same-column e i p hp) (λ i h. same-column e i q hq)))
+      table-cong (ones w) (ones w) _ _ (λ p q hp hq.
+      rw (gram-cong (listed table e) (columns n w e) rows p q (λ i h. listed-is n w table l e i p hp) (λ i h. listed-is n w table l e i q hq)))
 
   pub jtr-listed : (e : Entry) (t : ℕ → Float) → jtr-column (ones w) (moment (listed table e) t rows) ≡ jtr-column (ones w) (moment (columns n w e) t rows)
   unfolding jtr-column
-  jtr-listed e t = tab-cong (ones w) _ _ (λ p hp. moment-cong (listed table e) (columns n w e) t rows p (λ i h. same-column e i p hp))
+  jtr-listed e t = tab-cong (ones w) _ _ (λ p hp. moment-cong (listed table e) (columns n w e) t rows p (λ i h. listed-is n w table l e i p hp))

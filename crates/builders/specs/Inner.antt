@@ -19,9 +19,10 @@ pub record Within (theta : List Float) (rows n w : ℕ) : Type 0 where
 pub record Lists (n w : ℕ) (table : List ℕ) : Type 0 where
   pub each : (p : ℕ) → p < ones w → getD table p 0 ≡ term n w p
 
--- a table has k numbers, at most 64, and each is a column of a theta of n columns and this many rows
+-- a table has k numbers, each a column of a theta of n columns and this many rows; k is at most n, and n at most 64
 pub record Listed (rows n k : ℕ) (table : List ℕ) (theta : List Float) : Type 0 where
-  pub few : k ≤ 64
+  pub few-columns : n ≤ 64
+  pub few : k ≤ n
   pub long : k ≤ length table
   pub matrix : length theta ≡ rows * n
   pub each : (p : ℕ) → p < k → getD table p 0 < n

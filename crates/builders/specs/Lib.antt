@@ -4,3 +4,4 @@ pub mod ProductLaws
 pub mod Calls
 pub mod Unique
 pub mod Inner
+pub mod InnerLaws

@@ -1,12 +1,15 @@
 // jtj and jtr of the columns of a support, from theta itself. Each function may require what its caller tested.
+pub mod places;
+
 ghost use mathlib.Core.Path.{_≡_};
-ghost use Prim.Native.Nat.{_+_, _*_, _^_, _≤_, _<_};
+ghost use Prim.Native.Nat.{_+_, _*_, _≤_, _<_};
 ghost use lib.Count.{ones};
 ghost use lib.ListN.{length, set};
 ghost use Rattle.steps.specs.Num.{at, cell as cell-of};
 ghost use Rattle.steps.specs.Table.{table};
 ghost use Rattle.builders.specs.Products.{gram, moment, ridge, jtj-matrix, jtr-column, columns};
-ghost use Rattle.builders.specs.Inner.{Within, Lists, Listed, listed, RowDone};
+ghost use Rattle.builders.specs.Inner.{Within, Listed, listed, RowDone};
+use crate::inner::places::list_terms;
 use crate::walk::pair_sums;
 use crate::walk::target_sums;
 use slices::inner::cell;
@@ -14,21 +17,6 @@ use slices::inner::clear;
 use slices::inner::put;
 use support::Col;
 use support::Support;
-use support::Term;
-
-// Lists the term number of each reduced place.
-pub fn list_terms(support: Support, n_cols: usize, terms: &mut [usize])
-    requires { ⌜ (support .0 < 2 ^ «n_cols») × («n_cols» ≤ length (now terms)) ⌝ }
-    ensures { λ _. ⌜ Lists «n_cols» (support .0) (now (terms .exit)) ⌝ }
-{
-    for j in 0..n_cols {
-        let t = Term(j);
-        if support.contains(t) {
-            let p = support.place(t).0;
-            terms[p] = t.0;
-        }
-    }
-}
 
 // One sum goes to both (p,q) and (q,p) of a matrix of k columns.
 fn put_both(out: &mut [f64], k: usize, p: Col, q: Col, sum: f64)

@@ -6,34 +6,8 @@ ghost use Rattle.steps.specs.Num.{plus, times, +zero, at, cell as cell-of};
 ghost use Rattle.steps.specs.Wrote.{Wrote};
 ghost use Rattle.builders.specs.Products.{gram, moment};
 ghost use Rattle.builders.specs.Inner.{Listed, listed, Held};
-use slices::inner::cell;
+use crate::inner::places::at_place;
 use support::Col;
-use support::Term;
-
-// Row i of the column of theta that has this term number.
-fn at_term(theta: &[f64], n_cols: usize, i: usize, t: Term) -> f64
-    requires { ⌜ i * «n_cols» + t .0 < length (now theta) ⌝ }
-    ensures { λ r. ⌜ r ≡ cell-of «n_cols» (now (theta .entry)) i (t .0) ⌝ }
-{
-    cell(theta, n_cols, i, t.0)
-}
-
-// Row i of the column of theta at a reduced place.
-fn at_place(
-    theta: &[f64],
-    n_rows: usize,
-    n_cols: usize,
-    terms: &[usize],
-    k: usize,
-    i: usize,
-    p: Col,
-) -> f64
-    requires { ⌜ Listed «n_rows» «n_cols» k (now terms) (now theta) × (i < «n_rows») × (p .0 < k) ⌝ }
-    ensures { λ r. ⌜ r ≡ listed (now (terms .entry)) (cell-of «n_cols» (now (theta .entry))) i (p .0) ⌝ }
-{
-    let at = p.0;
-    at_term(theta, n_cols, i, Term(terms[at]))
-}
 
 // Adds the products of x and row i to the sums of the places from `lo` on.
 fn add_row(
@@ -44,13 +18,13 @@ fn add_row(
     k: usize,
     i: usize,
     x: f64,
-    lo: usize,
+    lo: Col,
     sums: &mut [f64],
 )
-    requires { ⌜ Listed «n_rows» «n_cols» k (now terms) (now theta) × (i < «n_rows») × (lo ≤ k) × (k ≤ length (now sums)) ⌝ }
-    ensures { λ _. ⌜ Wrote (λ q. q) lo k (λ q. plus (at (now (sums .entry)) q) (times x (listed (now (terms .entry)) (cell-of «n_cols» (now (theta .entry))) i q))) (now (sums .entry)) (now (sums .exit)) ⌝ }
+    requires { ⌜ Listed «n_rows» «n_cols» k (now terms) (now theta) × (i < «n_rows») × (lo .0 ≤ k) × (k ≤ length (now sums)) ⌝ }
+    ensures { λ _. ⌜ Wrote (λ q. q) (lo .0) k (λ q. plus (at (now (sums .entry)) q) (times x (listed (now (terms .entry)) (cell-of «n_cols» (now (theta .entry))) i q))) (now (sums .entry)) (now (sums .exit)) ⌝ }
 {
-    for q in lo..k {
+    for q in lo.0..k {
         sums[q] = sums[q] + x * at_place(theta, n_rows, n_cols, terms, k, i, Col(q));
     }
 }
@@ -70,7 +44,7 @@ pub fn pair_sums(
 {
     for i in 0..n_rows {
         let x = at_place(theta, n_rows, n_cols, terms, k, i, p);
-        add_row(theta, n_rows, n_cols, terms, k, i, x, p.0, sums);
+        add_row(theta, n_rows, n_cols, terms, k, i, x, p, sums);
     }
 }
 
@@ -88,6 +62,6 @@ pub fn target_sums(
     ensures { λ _. ⌜ Held 0 k (moment (listed (now (terms .entry)) (cell-of «n_cols» (now (theta .entry)))) (at (now (target .entry))) «n_rows») (now (sums .exit)) ⌝ }
 {
     for i in 0..n_rows {
-        add_row(theta, n_rows, n_cols, terms, k, i, target[i], 0, sums);
+        add_row(theta, n_rows, n_cols, terms, k, i, target[i], Col(0), sums);
     }
 }

@@ -1,5 +1,5 @@
 -- Theta's supported columns with the rows below them, and the target with zeros. Assumes nothing.
-use mathlib.Core.Path.{_≡_, refl, sym, ap, _∙_, subst}
+use mathlib.Core.Path.{_≡_, refl, sym, _∙_, subst}
 use mathlib.Core.Logic.{_⊎_, inl, inr, ⊎-elim}
 use mathlib.Core.Bool.{cond}
 use mathlib.Core.List.{List}
@@ -8,7 +8,7 @@ use native.Mathlib.Nat.{eq-or-lt-of-le, mul-le-mul, sub-zero, zero-add}
 use native.Mathlib.Omega.{arith}
 use lib.Count.{ones, ones-le}
 use lib.Dec.{eqb}
-use lib.ListN.{length, getD, replicate, length-replicate, getD-replicate}
+use lib.ListN.{length, replicate, length-replicate, getD-replicate}
 use lib.Ieee.{Float, nan}
 use borrow.Author.Tests.{lt-ltb, le-ltb}
 use Rattle.steps.specs.Num.{+zero, at, cell}
@@ -17,16 +17,11 @@ use Rattle.steps.specs.Table.{tab, is-tab, table, is-table}
 use Rattle.steps.specs.Space.{cleared, cleared-all, withPart, length-with, get-with, get-after}
 use Rattle.steps.specs.Wrote.{Wrote}
 use Rattle.steps.specs.Rows.{Rows, rows-apart}
-use Rattle.support.specs.CountLaws.{ones-is}
-use Rattle.support.specs.TermLaws.{term-is}
-use Rattle.builders.specs.Inner.{Lists}
+use Rattle.builders.specs.Inner.{Lists, listed}
+use Rattle.builders.specs.InnerLaws.{listed-is}
 use Rattle.builders.specs.Products.{columns}
 use Rattle.rule.specs.Fits.{augmented, padded}
 use Rattle.refit.specs.Parts.{Sized, Ridged}
-
--- a listed term number is a column
-pub listed-lt : (n w : ℕ) (l : List ℕ) → w < 2 ^ n → Lists n w l → (c : ℕ) → c < ones w → getD l c 0 < n
-listed-lt n w l h ls c b = omega (arith, ls .each c b, term-is n w c (omega (arith, ones-is w n h)) .below)
 
 -- the sizes of a refit: at most 64 supported columns, and the area of the augmented matrix
 module _ (rows n w k : ℕ) {theta target : List Float} (few : k ≡ ones w) (within : w < 2 ^ n) (sizes : Sized theta target rows n) where
@@ -56,11 +51,11 @@ ridge-more rows k root i s s' s'' d u =
 
 -- the gathered rows and the rows below are the augmented matrix
 module _ (rows n w k : ℕ) (root : Float) (theta : List Float) (l : List ℕ) (s s₁ s₂ : List Float) (few : k ≡ ones w) (len : length s ≡ (rows + k) * k)
-    (ls : Lists n w l) (top : Rows (rows + k) k (λ i c. cell n theta i (getD l c 0)) s rows s₁) (low : Ridged rows k root k s₁ s₂) where
+    (ls : Lists n w l) (top : Rows (rows + k) k (listed l (cell n theta)) s rows s₁) (low : Ridged rows k root k s₁ s₂) where
   entry : (i c : ℕ) → i < rows + k → c < k → (i < rows) ⊎ (rows ≤ i) → cell k s₂ i c ≡ augmented rows root (columns n w (cell n theta)) i c
-  unfolding augmented columns
+  unfolding augmented
   entry i c h g (inl b) =
-      low .old i c b g ∙ top .new i c b g ∙ ap (λ (t : ℕ). cell n theta i t) (ls .each c (omega arith)) ∙ sym (rw (lt-ltb i rows b))
+      low .old i c b g ∙ top .new i c b g ∙ listed-is n w l ls (cell n theta) i c (omega arith) ∙ sym (rw (lt-ltb i rows b))
   entry i c h g (inr b) =
       let e : rows + (i - rows) ≡ i = omega arith in
       subst (λ (x : ℕ). cell k s₂ x c ≡ cond (eqb (i - rows) c) root +zero) e (low .new (i - rows) c (omega arith) g) ∙ sym (rw (le-ltb i rows b))

@@ -1,22 +1,24 @@
 // A solve by least squares over a support's columns and as many more rows.
 ghost use mathlib.Core.Path.{_≡_};
 ghost use mathlib.Core.Bool.{cond};
-ghost use Prim.Native.Nat.{ℕ, _+_, _*_, _^_, _≤_, _<_};
+ghost use Prim.Native.Nat.{_+_, _*_, _^_, _≤_, _<_};
 ghost use lib.Count.{ones};
 ghost use lib.Dec.{eqb};
-ghost use lib.ListN.{length, getD, drop};
+ghost use lib.ListN.{length, set, drop};
 ghost use Rattle.steps.specs.Num.{+zero, at, cell};
 ghost use Rattle.steps.specs.Rows.{Rows};
 ghost use Rattle.steps.specs.Table.{tab, table};
 ghost use Rattle.steps.specs.Wrote.{Wrote};
 ghost use Rattle.float64.specs.Root.{rootOf};
+ghost use Rattle.builders.specs.Inner.{Listed, listed};
 ghost use Rattle.builders.specs.Products.{columns};
 ghost use Rattle.refusal.specs.Answers.{told};
 ghost use Rattle.least.specs.Least.{values};
 ghost use Rattle.rule.specs.Calls.{fit-need};
 ghost use Rattle.rule.specs.Fits.{augmented, padded, by-least};
 ghost use Rattle.refit.specs.Parts.{Sized, Ridged, gave, over-support, placed};
-use builders::inner::list_terms;
+use builders::inner::places::at_place;
+use builders::inner::places::list_terms;
 use coeffs::inner::scatter;
 use float64::sqrt;
 use least::inner::least_packed;
@@ -24,39 +26,35 @@ use refusal::Solved;
 use rule::Solver;
 use slices::inner::clear;
 use slices::inner::copy;
+use slices::inner::put;
+use support::Col;
 use support::Support;
 
-// A row of the refit: the supported numbers of the row of theta that starts at `from`, to the row that starts at `to`.
+// A number of the refit's matrix goes to a row and a reduced place, never to a term number.
+fn put_at(s: &mut [f64], n_active: usize, i: usize, col: Col, x: f64)
+    requires { ⌜ i * «n_active» + col .0 < length (now s) ⌝ }
+    ensures { λ _. ⌜ now (s .exit) ≡ set (now (s .entry)) (i * «n_active» + col .0) x ⌝ }
+{
+    put(s, n_active, i, col.0, x);
+}
+
+// Row i of the refit: the supported numbers of row i of theta, each at its reduced place.
 fn take_row(
     theta: &[f64],
-    from: usize,
-    term_idx: &[usize],
+    n_rows: usize,
+    n_cols: usize,
+    terms: &[usize],
     n_active: usize,
+    i: usize,
     s: &mut [f64],
-    to: usize,
 )
-    requires { ⌜ («n_active» ≤ 64) × («n_active» ≤ length (now «term_idx»)) × (to + «n_active» ≤ length (now s)) × ((c : ℕ) → c < «n_active» → from + getD (now «term_idx») c 0 < length (now theta)) ⌝ }
-    ensures { λ _. ⌜ Wrote (λ c. to + c) 0 «n_active» (λ c. at (now (theta .entry)) (from + getD (now («term_idx» .entry)) c 0)) (now (s .entry)) (now (s .exit)) ⌝ }
+    requires { ⌜ Listed «n_rows» «n_cols» «n_active» (now terms) (now theta) × (i < «n_rows») × (i * «n_active» + «n_active» ≤ length (now s)) ⌝ }
+    ensures { λ _. ⌜ Wrote (λ c. i * «n_active» + c) 0 «n_active» (listed (now (terms .entry)) (cell «n_cols» (now (theta .entry))) i) (now (s .entry)) (now (s .exit)) ⌝ }
 {
     for c in 0..n_active {
-        let t = term_idx[c];
-        s[to + c] = theta[from + t];
-    }
-}
-
-// One of the rows below: the root on its diagonal, +0.0 elsewhere.
-fn ridge_entry(i: usize, c: usize, root: f64) -> f64
-    ensures { λ r. ⌜ r ≡ cond (eqb i c) root +zero ⌝ }
-{
-    if i == c { root } else { 0.0 }
-}
-
-fn ridge_row(i: usize, n_active: usize, root: f64, s: &mut [f64], to: usize)
-    requires { ⌜ («n_active» ≤ 64) × (to + «n_active» ≤ length (now s)) ⌝ }
-    ensures { λ _. ⌜ Wrote (λ c. to + c) 0 «n_active» (λ c. cond (eqb i c) root +zero) (now (s .entry)) (now (s .exit)) ⌝ }
-{
-    for c in 0..n_active {
-        s[to + c] = ridge_entry(i, c, root);
+        let col = Col(c);
+        let x = at_place(theta, n_rows, n_cols, terms, n_active, i, col);
+        put_at(s, n_active, i, col, x);
     }
 }
 
@@ -65,15 +63,33 @@ fn gather(
     theta: &[f64],
     n_rows: usize,
     n_cols: usize,
-    term_idx: &[usize],
+    terms: &[usize],
     n_active: usize,
     s: &mut [f64],
 )
-    requires { ⌜ («n_cols» ≤ 64) × («n_rows» ≤ 4096) × («n_active» ≤ 64) × («n_active» ≤ length (now «term_idx»)) × (length (now theta) ≡ «n_rows» * «n_cols») × («n_rows» * «n_active» ≤ length (now s)) × ((c : ℕ) → c < «n_active» → getD (now «term_idx») c 0 < «n_cols») ⌝ }
-    ensures { λ _. ⌜ Rows («n_rows» + «n_active») «n_active» (λ i c. cell «n_cols» (now (theta .entry)) i (getD (now («term_idx» .entry)) c 0)) (now (s .entry)) «n_rows» (now (s .exit)) ⌝ }
+    requires { ⌜ Listed «n_rows» «n_cols» «n_active» (now terms) (now theta) × («n_rows» * «n_active» ≤ length (now s)) ⌝ }
+    ensures { λ _. ⌜ Rows («n_rows» + «n_active») «n_active» (listed (now (terms .entry)) (cell «n_cols» (now (theta .entry)))) (now (s .entry)) «n_rows» (now (s .exit)) ⌝ }
 {
     for i in 0..n_rows {
-        take_row(theta, i * n_cols, term_idx, n_active, s, i * n_active);
+        take_row(theta, n_rows, n_cols, terms, n_active, i, s);
+    }
+}
+
+// The rows below, one for each column of the refit: the root at its own column, +0.0 elsewhere.
+fn ridge_entry(own: Col, col: Col, root: f64) -> f64
+    ensures { λ r. ⌜ r ≡ cond (eqb (own .0) (col .0)) root +zero ⌝ }
+{
+    if own.0 == col.0 { root } else { 0.0 }
+}
+
+fn ridge_row(i: usize, own: Col, n_active: usize, root: f64, s: &mut [f64])
+    requires { ⌜ i * «n_active» + «n_active» ≤ length (now s) ⌝ }
+    ensures { λ _. ⌜ Wrote (λ c. i * «n_active» + c) 0 «n_active» (λ c. cond (eqb (own .0) c) root +zero) (now (s .entry)) (now (s .exit)) ⌝ }
+{
+    for c in 0..n_active {
+        let col = Col(c);
+        let x = ridge_entry(own, col, root);
+        put_at(s, n_active, i, col, x);
     }
 }
 
@@ -82,8 +98,8 @@ fn add_ridge(n_rows: usize, n_active: usize, root: f64, s: &mut [f64])
     requires { ⌜ («n_rows» ≤ 4096) × («n_active» ≤ 64) × (length (now s) ≡ («n_rows» + «n_active») * «n_active») ⌝ }
     ensures { λ _. ⌜ Ridged «n_rows» «n_active» root «n_active» (now (s .entry)) (now (s .exit)) ⌝ }
 {
-    for i in 0..n_active {
-        ridge_row(i, n_active, root, s, (n_rows + i) * n_active);
+    for c in 0..n_active {
+        ridge_row(n_rows + c, Col(c), n_active, root, s);
     }
 }
 
@@ -95,14 +111,14 @@ fn augment_with(
     support: Support,
     lambda: f64,
     s: &mut [f64],
-    term_idx: &mut [usize],
+    terms: &mut [usize],
 )
-    requires { ⌜ («n_cols» ≤ 64) × (length (now «term_idx») ≡ «n_cols») × («n_rows» ≤ 4096) × (length (now theta) ≡ «n_rows» * «n_cols») × (support .0 < 2 ^ «n_cols») × (length (now s) ≡ («n_rows» + ones (support .0)) * ones (support .0)) ⌝ }
+    requires { ⌜ («n_cols» ≤ 64) × (length (now terms) ≡ «n_cols») × («n_rows» ≤ 4096) × (length (now theta) ≡ «n_rows» * «n_cols») × (support .0 < 2 ^ «n_cols») × (length (now s) ≡ («n_rows» + ones (support .0)) * ones (support .0)) ⌝ }
     ensures { λ _. ⌜ now (s .exit) ≡ table («n_rows» + ones (support .0)) (ones (support .0)) (augmented «n_rows» (rootOf lambda) (columns «n_cols» (support .0) (cell «n_cols» (now (theta .entry))))) ⌝ }
 {
     let n_active = support.count();
-    list_terms(support, n_cols, term_idx);
-    gather(theta, n_rows, n_cols, term_idx, n_active, s);
+    list_terms(support, n_cols, terms);
+    gather(theta, n_rows, n_cols, terms, n_active, s);
     add_ridge(n_rows, n_active, sqrt(lambda), s);
 }
 
@@ -117,7 +133,7 @@ fn augment(
     requires { ⌜ («n_cols» ≤ 64) × («n_rows» ≤ 4096) × (length (now theta) ≡ «n_rows» * «n_cols») × (support .0 < 2 ^ «n_cols») × (length (now s) ≡ («n_rows» + ones (support .0)) * ones (support .0)) ⌝ }
     ensures { λ _. ⌜ now (s .exit) ≡ table («n_rows» + ones (support .0)) (ones (support .0)) (augmented «n_rows» (rootOf lambda) (columns «n_cols» (support .0) (cell «n_cols» (now (theta .entry))))) ⌝ }
 {
-    let mut term_idx = [0usize; 64];
+    let mut terms = [0usize; 64];
     augment_with(
         theta,
         n_rows,
@@ -125,7 +141,7 @@ fn augment(
         support,
         lambda,
         s,
-        &mut term_idx[0..n_cols],
+        &mut terms[0..n_cols],
     );
 }
 

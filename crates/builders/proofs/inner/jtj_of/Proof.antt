@@ -2,7 +2,8 @@
 use mathlib.Core.Path.{_∙_}
 use native.Mathlib.Omega.{arith}
 use borrow.Author.Needs.{needs}
-use Rattle.builders.proofs.Places.{listed-in, jtj-listed}
+use Rattle.builders.specs.InnerLaws.{listed-in}
+use Rattle.builders.proofs.Places.{jtj-listed}
 use Rattle.builders.proofs.Damping.{damped-table}
 use Rattle.builders.proofs.inner.jtj_of.Statement.{statement}
 use Rattle.builders.proofs.inner.jtj_of.Tie as tie
@@ -25,7 +26,7 @@ pair-rows-requires c κs =
     let list = counted .before .before .list-terms in
     let start = counted .before .before .before .before .before .before in
     let sizes = start .pre .0 in (
-      listed-in _ _ _ _ _ sizes (list .ensures) _ (counted .count .ensures) (omega (arith, list .kept .1 .1 .0, sizes .few-columns)),
+      listed-in _ _ _ (list .ensures) _ _ _ sizes (counted .count .ensures) (omega (arith, list .kept .1 .1 .0, sizes .few-columns)),
       rw (counted .count .ensures) (start .pre .1),
     )
 
@@ -44,8 +45,7 @@ returns c =
     let rows = done .before .before .before .before in
     let counted = rows .before .before .before in
     let list = counted .before .before .list-terms in
-    let sizes = counted .before .before .before .before .before .before .pre .0 in
-    rw (done .damp .ensures, rows .pair-rows .ensures, damped-table, counted .count .ensures) (jtj-listed _ _ _ _ _ sizes (list .ensures) _ _)
+    rw (done .damp .ensures, rows .pair-rows .ensures, damped-table, counted .count .ensures) (jtj-listed _ _ _ _ (list .ensures) _ _)
 
 pub jtj-of-spec : {M : Type 1} → statement M
 jtj-of-spec =

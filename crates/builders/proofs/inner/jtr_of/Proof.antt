@@ -2,7 +2,8 @@
 use mathlib.Core.Path.{_∙_}
 use native.Mathlib.Omega.{arith}
 use borrow.Author.Needs.{needs}
-use Rattle.builders.proofs.Places.{listed-in, jtr-listed}
+use Rattle.builders.specs.InnerLaws.{listed-in}
+use Rattle.builders.proofs.Places.{jtr-listed}
 use Rattle.builders.proofs.Walks.{cleared-zeros, held-all}
 use Rattle.builders.proofs.inner.jtr_of.Statement.{statement}
 use Rattle.builders.proofs.inner.jtr_of.Tie as tie
@@ -30,7 +31,7 @@ target-sums-requires c κs =
     let list = counted .before .before .list-terms in
     let start = counted .before .before .before .before .before .before .before in
     let sizes = start .pre .0 in (
-      listed-in _ _ _ _ _ sizes (list .ensures) _ (counted .count .ensures) (omega (arith, list .kept .1 .1 .0, sizes .few-columns)),
+      listed-in _ _ _ (list .ensures) _ _ _ sizes (counted .count .ensures) (omega (arith, list .kept .1 .1 .0, sizes .few-columns)),
       start .pre .1,
       omega (arith, clear .kept .0, counted .count .ensures, start .pre .2),
       rw (clear .ensures) (cleared-zeros _ _),
@@ -48,7 +49,7 @@ returns c =
     let list = counted .before .before .list-terms in
     let start = counted .before .before .before .before .before .before .before in
     held-all _ _ _ (sums .kept .1 .1 .1 .1 .1 .1 .0 ∙ cleared .clear .kept .0 ∙ start .pre .2) (rw (counted .count .ensures) at (sums .ensures))
-    ∙ jtr-listed _ _ _ _ _ (start .pre .0) (list .ensures) _ _
+    ∙ jtr-listed _ _ _ _ (list .ensures) _ _
 
 pub jtr-of-spec : {M : Type 1} → statement M
 jtr-of-spec =

@@ -1,4 +1,6 @@
 -- `pair_row` meets its contract: the sums of one walk, then put to the row and the column.
+use Prim.Native.Nat.{_≤_}
+use native.Mathlib.Omega.{arith}
 use borrow.Author.Needs.{needs}
 use Rattle.builders.proofs.Rows.{row-held}
 use Rattle.builders.proofs.Walks.{zeros}
@@ -10,8 +12,9 @@ slice-aggregate-pair-sums c = search needs
 
 pair-sums-requires : tie.Need-pair-sums-requires
 pair-sums-requires c κs =
-    let pre = c .before .before .before .before .pre in
-    (pre .0, pre .1, pre .0 .few, zeros _ _ (pre .0 .few))
+    let start = c .before .before .before .before in
+    let few : start .args .k ≤ 64 = omega (arith, start .pre .0 .few, start .pre .0 .few-columns) in
+    (start .pre .0, start .pre .1, few, zeros _ _ few)
 
 slice-aggregate-put-row : tie.Need-slice-aggregate-put-row
 slice-aggregate-put-row c = search needs

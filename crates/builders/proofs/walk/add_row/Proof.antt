@@ -9,11 +9,11 @@ use Rattle.builders.proofs.walk.add_row.Statement.{statement}
 use Rattle.builders.proofs.walk.add_row.Tie as tie
 
 abbrev Inv-loop : tie.InvT-loop
-Inv-loop theta n-rows n-cols terms k i x lo sums₀ q₀ sums q =
-    (lo ≤ q) × (q ≤ k) × Wrote (λ q. q) lo q (λ q. plus (at sums₀ q) (times x (listed terms (cell n-cols theta) i q))) sums₀ sums
+Inv-loop theta n-rows n-cols terms k i x sums₀ q₀ sums q =
+    (q₀ ≤ q) × (q ≤ k) × Wrote (λ q. q) q₀ q (λ q. plus (at sums₀ q) (times x (listed terms (cell n-cols theta) i q))) sums₀ sums
 
 abbrev μ-loop : tie.MeasureT-loop
-μ-loop theta n-rows n-cols terms k i x lo sums₀ q₀ sums q = k - q
+μ-loop theta n-rows n-cols terms k i x sums₀ q₀ sums q = k - q
 
 loop-holds : tie.Need-loop-holds Inv-loop μ-loop
 loop-holds c = (omega arith, omega arith, wrote-none _ _ _ _)
@@ -50,7 +50,7 @@ loop-again c =
       omega arith,
       omega arith,
       rw (c .at-place .ensures)
-          (wrote-turn (λ q. q) (λ q s. plus s (times (a .x) (listed (now (a .terms)) (cell (a .n-cols) (now (a .theta))) (a .i) q))) (a .lo) (turn .q) (now (a .sums)) (turn .sums) (turn .inv .0) (omega arith) (λ q h h' e. omega arith) (turn .inv .2)),
+          (wrote-turn (λ q. q) (λ q s. plus s (times (a .x) (listed (now (a .terms)) (cell (a .n-cols) (now (a .theta))) (a .i) q))) (a .lo .0) (turn .q) (now (a .sums)) (turn .sums) (turn .inv .0) (omega arith) (λ q h h' e. omega arith) (turn .inv .2)),
     )
 
 same-length : tie.Need-same-length Inv-loop μ-loop

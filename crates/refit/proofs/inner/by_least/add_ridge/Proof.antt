@@ -1,7 +1,6 @@
 -- `add_ridge` meets its contract. The loop's invariant: the rows passed have the root on their diagonal.
 use mathlib.Core.Path.{_≡_}
 use Prim.Native.Nat.{_+_, _-_, _≤_, _<_}
-use native.Mathlib.Nat.{mul-le-mul}
 use native.Mathlib.Omega.{arith}
 use Rattle.steps.specs.Table.{row-fits}
 use Rattle.refit.specs.Parts.{Ridged}
@@ -10,10 +9,10 @@ use Rattle.refit.proofs.inner.by_least.add_ridge.Statement.{statement}
 use Rattle.refit.proofs.inner.by_least.add_ridge.Tie as tie
 
 abbrev Inv-loop : tie.InvT-loop
-Inv-loop n-rows n-active root s₀ i₀ s i = (i ≤ n-active) × Ridged n-rows n-active root i s₀ s
+Inv-loop n-rows n-active root s₀ c₀ s c = (c ≤ n-active) × Ridged n-rows n-active root c s₀ s
 
 abbrev μ-loop : tie.MeasureT-loop
-μ-loop n-rows n-active root s₀ i₀ s i = n-active - i
+μ-loop n-rows n-active root s₀ c₀ s c = n-active - c
 
 loop-holds : tie.Need-loop-holds Inv-loop μ-loop
 loop-holds c = (omega arith, ridge-none _ _ _ _)
@@ -21,22 +20,15 @@ loop-holds c = (omega arith, ridge-none _ _ _ _)
 add-ridge-row : tie.Need-add-ridge-row Inv-loop μ-loop
 add-ridge-row c = omega arith
 
-mul-ridge-row : tie.Need-mul-ridge-row Inv-loop μ-loop
-mul-ridge-row c =
-    let start = c .before .before .before .before in
-    let h : start .args .n-rows + c .before .before .loop .i ≤ 4160 = omega arith in
-    omega (arith, mul-le-mul h (start .pre .1))
-
 ridge-row-requires : tie.Need-ridge-row-requires Inv-loop μ-loop
 ridge-row-requires c κs =
     let turn = c .before .before .loop in
-    let start = c .before .before .before .before in
-    let args = start .args in
-    let h : args .n-rows + turn .i < args .n-rows + args .n-active = omega arith in
-    (start .pre .1, omega (arith, row-fits (args .n-rows + args .n-active) (args .n-active) (args .n-rows + turn .i) h, turn .inv .1 .long))
+    let a = c .before .before .before .before .args in
+    let h : a .n-rows + turn .c < a .n-rows + a .n-active = omega arith in
+    omega (arith, row-fits (a .n-rows + a .n-active) (a .n-active) (a .n-rows + turn .c) h, turn .inv .1 .long)
 
-add-i : tie.Need-add-i Inv-loop μ-loop
-add-i c = omega arith
+add-c : tie.Need-add-c Inv-loop μ-loop
+add-c c = omega arith
 
 loop-less : tie.Need-loop-less Inv-loop μ-loop
 loop-less c = omega arith
@@ -45,7 +37,7 @@ loop-again : tie.Need-loop-again Inv-loop μ-loop
 loop-again c =
     let row = c .before .before .ridge-row in
     let turn = c .before .before .before .before .before .loop in
-    (omega arith, ridge-more _ _ _ (turn .i) _ (turn .s) _ (turn .inv .1) (row .ensures))
+    (omega arith, ridge-more _ _ _ (turn .c) _ (turn .s) _ (turn .inv .1) (row .ensures))
 
 same-length : tie.Need-same-length Inv-loop μ-loop
 same-length c = c .before .loop .inv .1 .long
@@ -53,8 +45,8 @@ same-length c = c .before .loop .inv .1 .long
 returns : tie.Need-returns Inv-loop μ-loop
 returns c =
     let end = c .before .loop in
-    let all : end .i ≡ c .before .before .before .args .n-active = omega arith in
+    let all : end .c ≡ c .before .before .before .args .n-active = omega arith in
     rw all at (end .inv .1)
 
 pub add-ridge-spec : {M : Type 1} → statement M
-add-ridge-spec = tie.close (tie.spec Inv-loop μ-loop loop-holds add-ridge-row mul-ridge-row ridge-row-requires add-i loop-less loop-again same-length returns)
+add-ridge-spec = tie.close (tie.spec Inv-loop μ-loop loop-holds add-ridge-row ridge-row-requires add-c loop-less loop-again same-length returns)

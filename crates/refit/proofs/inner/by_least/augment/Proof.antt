@@ -7,11 +7,11 @@ use Rattle.refit.proofs.inner.by_least.augment.Tie as tie
 sub-augment-with : tie.Need-sub-augment-with
 sub-augment-with c = search needs
 
-part-term-idx-start : tie.Need-part-term-idx-start
-part-term-idx-start c = search needs
+part-terms-start : tie.Need-part-terms-start
+part-terms-start c = search needs
 
-part-term-idx-end : tie.Need-part-term-idx-end
-part-term-idx-end c = search needs
+part-terms-end : tie.Need-part-terms-end
+part-terms-end c = search needs
 
 augment-with-requires : tie.Need-augment-with-requires
 augment-with-requires c κs = let start = c .before .before .before .before in (start .pre .0, length-head (start .args .n-cols) _ (start .pre .0), start .pre .1, start .pre .2, start .pre .3, start .pre .4)
@@ -23,4 +23,4 @@ returns : tie.Need-returns
 returns c = c .before .before .before .augment-with .ensures
 
 pub augment-spec : {M : Type 1} → statement M
-augment-spec = tie.close (tie.spec sub-augment-with part-term-idx-start part-term-idx-end augment-with-requires same-length returns)
+augment-spec = tie.close (tie.spec sub-augment-with part-terms-start part-terms-end augment-with-requires same-length returns)

@@ -5,7 +5,9 @@ use native.Mathlib.Omega.{arith}
 use lib.Count.{ones, ones-le}
 use borrow.Author.Needs.{needs}
 use denote.Ref.{now}
-use Rattle.refit.proofs.Augment.{listed-lt, augmented-is}
+use Rattle.builders.specs.Inner.{Within}
+use Rattle.builders.specs.InnerLaws.{listed-in}
+use Rattle.refit.proofs.Augment.{augmented-is}
 use Rattle.refit.proofs.inner.by_least.augment_with.Statement.{statement}
 use Rattle.refit.proofs.inner.by_least.augment_with.Tie as tie
 
@@ -20,17 +22,14 @@ gather-requires c κs =
     let at-list-terms = c .before .before .before .before in
     let at-count = at-list-terms .before .before in
     let start = at-count .before .before .before .before in
-    let listed = at-list-terms .list-terms in
+    let list = at-list-terms .list-terms in
     let count = at-count .count .ensures in
-    let w = start .args .support .0 in
-    let few = ones-le (start .args .n-cols) w (start .pre .4) in (
-      start .pre .0,
-      start .pre .2,
-      omega arith,
-      omega (arith, listed .kept .1 .1 .0),
-      start .pre .3,
-      rw count (omega (arith, mul-le-mul (le-add-right (start .args .n-rows) (ones w)) (le-refl (ones w)))),
-      λ k h. listed-lt (start .args .n-cols) w _ (start .pre .4) (listed .ensures) k (omega arith),
+    let a = start .args in
+    let k = ones (a .support .0) in
+    let sizes : Within (now (a .theta)) (a .n-rows) (a .n-cols) (a .support .0) =
+    record { few-columns = start .pre .0; few-rows = start .pre .2; matrix = start .pre .3; terms = start .pre .4 } in (
+      listed-in (a .n-cols) (a .support .0) _ (list .ensures) (now (a .theta)) (a .n-rows) _ sizes count (omega (arith, list .kept .1 .1 .0)),
+      rw count (omega (arith, mul-le-mul (le-add-right (a .n-rows) k) (le-refl k))),
     )
 
 sqrt-requires : tie.Need-sqrt-requires

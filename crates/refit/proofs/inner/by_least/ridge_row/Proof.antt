@@ -1,6 +1,6 @@
--- `ridge_row` meets its contract. The loop's invariant: the columns passed have their numbers.
+-- `ridge_row` meets its contract. The loop's invariant: the places passed have their numbers.
 use mathlib.Core.Bool.{cond}
-use Prim.Native.Nat.{_+_, _-_, _≤_}
+use Prim.Native.Nat.{_+_, _*_, _-_, _≤_}
 use native.Mathlib.Omega.{arith}
 use lib.Dec.{eqb}
 use borrow.Author.Needs.{needs}
@@ -11,10 +11,10 @@ use Rattle.refit.proofs.inner.by_least.ridge_row.Statement.{statement}
 use Rattle.refit.proofs.inner.by_least.ridge_row.Tie as tie
 
 abbrev Inv-loop : tie.InvT-loop
-Inv-loop i n-active root s₀ to c₀ s c = (c ≤ n-active) × Wrote (λ k. to + k) 0 c (λ k. cond (eqb i k) root +zero) s₀ s
+Inv-loop i own n-active root s₀ c₀ s c = (c ≤ n-active) × Wrote (λ q. i * n-active + q) 0 c (λ q. cond (eqb (own .0) q) root +zero) s₀ s
 
 abbrev μ-loop : tie.MeasureT-loop
-μ-loop i n-active root s₀ to c₀ s c = n-active - c
+μ-loop i own n-active root s₀ c₀ s c = n-active - c
 
 loop-holds : tie.Need-loop-holds Inv-loop μ-loop
 loop-holds c = (omega arith, wrote-none _ _ _ _)
@@ -22,14 +22,8 @@ loop-holds c = (omega arith, wrote-none _ _ _ _)
 ridge-entry-requires : tie.Need-ridge-entry-requires Inv-loop μ-loop
 ridge-entry-requires c κs = search needs
 
-add-s : tie.Need-add-s Inv-loop μ-loop
-add-s c = omega arith
-
-mul-s : tie.Need-mul-s Inv-loop μ-loop
-mul-s c = omega arith
-
-slice-write-s : tie.Need-slice-write-s Inv-loop μ-loop
-slice-write-s c = omega arith
+put-at-requires : tie.Need-put-at-requires Inv-loop μ-loop
+put-at-requires c κs = let turn = c .before .before .before .loop in omega (arith, turn .inv .1 .long)
 
 add-c : tie.Need-add-c Inv-loop μ-loop
 add-c c = omega arith
@@ -39,9 +33,15 @@ loop-less c = omega arith
 
 loop-again : tie.Need-loop-again Inv-loop μ-loop
 loop-again c =
-    let turn = c .before .before .loop in
-    let args = c .before .before .before .before .args in
-    (omega arith, wrote-more (λ k. args .to + k) 0 (turn .c) _ (now (args .s)) (turn .s) _ (omega arith) (omega arith) (λ k h h' e. omega arith) (turn .inv .1) (c .ridge-entry .ensures))
+    let at-put = c .before .before in
+    let at-entry = at-put .before .before in
+    let at-loop = at-entry .before .before in
+    let turn = at-loop .loop in
+    let a = at-loop .before .before .args in (
+      omega arith,
+      rw (at-put .put-at .ensures)
+          (wrote-more (λ q. a .i * a .n-active + q) 0 (turn .c) _ (now (a .s)) (turn .s) _ (omega arith) (omega arith) (λ q h h' e. omega arith) (turn .inv .1) (at-entry .ridge-entry .ensures)),
+    )
 
 same-length : tie.Need-same-length Inv-loop μ-loop
 same-length c = c .before .loop .inv .1 .long
@@ -50,5 +50,4 @@ returns : tie.Need-returns Inv-loop μ-loop
 returns c = let end = c .before .loop in wrote-end _ _ (end .c) _ _ _ _ (end .inv .1) (omega arith) (omega arith)
 
 pub ridge-row-spec : {M : Type 1} → statement M
-ridge-row-spec =
-    tie.close (tie.spec Inv-loop μ-loop loop-holds ridge-entry-requires add-s mul-s slice-write-s add-c loop-less loop-again same-length returns)
+ridge-row-spec = tie.close (tie.spec Inv-loop μ-loop loop-holds ridge-entry-requires put-at-requires add-c loop-less loop-again same-length returns)

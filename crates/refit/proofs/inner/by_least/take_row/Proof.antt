@@ -1,46 +1,30 @@
--- `take_row` meets its contract. The loop's invariant: the columns passed have theta's numbers.
-use mathlib.Core.Path.{refl}
-use Prim.Native.Nat.{_+_, _-_, _≤_}
+-- `take_row` meets its contract. The loop's invariant: the places passed have the numbers of their terms.
+use Prim.Native.Nat.{_+_, _*_, _-_, _≤_}
 use native.Mathlib.Omega.{arith}
-use lib.ListN.{getD}
 use denote.Ref.{now}
-use Rattle.steps.specs.Num.{at}
+use Rattle.steps.specs.Num.{cell}
 use Rattle.steps.specs.Wrote.{Wrote, wrote-none, wrote-more, wrote-end}
+use Rattle.builders.specs.Inner.{listed}
 use Rattle.refit.proofs.inner.by_least.take_row.Statement.{statement}
 use Rattle.refit.proofs.inner.by_least.take_row.Tie as tie
 
 abbrev Inv-loop : tie.InvT-loop
-Inv-loop theta from term-idx n-active s₀ to c₀ s c = (c ≤ n-active) × Wrote (λ k. to + k) 0 c (λ k. at theta (from + getD term-idx k 0)) s₀ s
+Inv-loop theta n-rows n-cols terms n-active i s₀ c₀ s c =
+    (c ≤ n-active) × Wrote (λ q. i * n-active + q) 0 c (listed terms (cell n-cols theta) i) s₀ s
 
 abbrev μ-loop : tie.MeasureT-loop
-μ-loop theta from term-idx n-active s₀ to c₀ s c = n-active - c
+μ-loop theta n-rows n-cols terms n-active i s₀ c₀ s c = n-active - c
 
 loop-holds : tie.Need-loop-holds Inv-loop μ-loop
 loop-holds c = (omega arith, wrote-none _ _ _ _)
 
-mul-t : tie.Need-mul-t Inv-loop μ-loop
-mul-t c = omega arith
+at-place-requires : tie.Need-at-place-requires Inv-loop μ-loop
+at-place-requires c κs =
+    let start = c .before .before .before .before .before in
+    (start .pre .0, start .pre .1, c .loop-test .taken)
 
-shared-slice-read-t : tie.Need-shared-slice-read-t Inv-loop μ-loop
-shared-slice-read-t c = omega arith
-
-add-s : tie.Need-add-s Inv-loop μ-loop
-add-s c = let below = c .before .before .before .pre .3 (c .before .before .loop .c) (omega arith) in omega arith
-
-mul-s : tie.Need-mul-s Inv-loop μ-loop
-mul-s c = let below = c .before .before .before .pre .3 (c .before .before .loop .c) (omega arith) in omega arith
-
-shared-slice-read-s : tie.Need-shared-slice-read-s Inv-loop μ-loop
-shared-slice-read-s c = c .before .before .before .before .pre .3 (c .before .before .before .loop .c) (omega arith)
-
-add-s-2 : tie.Need-add-s-2 Inv-loop μ-loop
-add-s-2 c = omega arith
-
-mul-s-2 : tie.Need-mul-s-2 Inv-loop μ-loop
-mul-s-2 c = omega arith
-
-slice-write-s : tie.Need-slice-write-s Inv-loop μ-loop
-slice-write-s c = omega arith
+put-at-requires : tie.Need-put-at-requires Inv-loop μ-loop
+put-at-requires c κs = let turn = c .before .before .before .loop in omega (arith, turn .inv .1 .long)
 
 add-c : tie.Need-add-c Inv-loop μ-loop
 add-c c = omega arith
@@ -50,9 +34,15 @@ loop-less c = omega arith
 
 loop-again : tie.Need-loop-again Inv-loop μ-loop
 loop-again c =
-    let turn = c .before .before .before .loop in
-    let args = c .before .before .before .before .args in
-    (omega arith, wrote-more (λ k. args .to + k) 0 (turn .c) _ (now (args .s)) (turn .s) _ (omega arith) (omega arith) (λ k h h' e. omega arith) (turn .inv .1) refl)
+    let at-put = c .before .before in
+    let at-read = at-put .before .before in
+    let at-loop = at-read .before .before in
+    let turn = at-loop .loop in
+    let a = at-loop .before .before .before .before .args in (
+      omega arith,
+      rw (at-put .put-at .ensures)
+          (wrote-more (λ q. a .i * a .n-active + q) 0 (turn .c) _ (now (a .s)) (turn .s) _ (omega arith) (omega arith) (λ q h h' e. omega arith) (turn .inv .1) (at-read .at-place .ensures)),
+    )
 
 same-length : tie.Need-same-length Inv-loop μ-loop
 same-length c = c .before .loop .inv .1 .long
@@ -61,6 +51,4 @@ returns : tie.Need-returns Inv-loop μ-loop
 returns c = let end = c .before .loop in wrote-end _ _ (end .c) _ _ _ _ (end .inv .1) (omega arith) (omega arith)
 
 pub take-row-spec : {M : Type 1} → statement M
-take-row-spec =
-    tie.close
-    (tie.spec Inv-loop μ-loop loop-holds mul-t shared-slice-read-t add-s mul-s shared-slice-read-s add-s-2 mul-s-2 slice-write-s add-c loop-less loop-again same-length returns)
+take-row-spec = tie.close (tie.spec Inv-loop μ-loop loop-holds at-place-requires put-at-requires add-c loop-less loop-again same-length returns)

@@ -3,11 +3,12 @@ use mathlib.Core.Path.{_≡_, refl, sym, _∙_}
 use mathlib.Core.Logic.{⊎-elim}
 use Prim.Native.Nat.{_-_, _≤_, _<_}
 use native.Mathlib.Omega.{arith}
+use lib.Count.{ones-le}
 use lib.ListN.{length, length-set}
 use Rattle.support.specs.Word.{place}
-use Rattle.builders.proofs.Places.{count-few, place-below, ListedTo, list-none, list-take, list-skip, list-end}
-use Rattle.builders.proofs.inner.list_terms.Statement.{statement}
-use Rattle.builders.proofs.inner.list_terms.Tie as tie
+use Rattle.builders.proofs.Places.{place-below, ListedTo, list-none, list-take, list-skip, list-end}
+use Rattle.builders.proofs.inner.places.list_terms.Statement.{statement}
+use Rattle.builders.proofs.inner.places.list_terms.Tie as tie
 
 abbrev Inv-loop : tie.InvT-loop
 Inv-loop support n-cols terms₀ j₀ terms j = (j ≤ n-cols) × (length terms ≡ length terms₀) × ListedTo n-cols (support .0) j terms
@@ -30,13 +31,10 @@ room c =
     let head = c .before .before .before in
     let start = head .before .before in
     let terms = start .pre .0 in
-    omega (arith, start .pre .1, head .loop .inv .1, count-few _ _ terms, place-below _ _ terms (head .loop .j) (sym (c .before .contains .ensures) ∙ c .if1 .taken))
+    omega (arith, start .pre .1, head .loop .inv .1, ones-le _ _ terms, place-below _ _ terms (head .loop .j) (sym (c .before .contains .ensures) ∙ c .if1 .taken))
 
-mul-terms : tie.Need-mul-terms Inv-loop μ-loop
-mul-terms c = omega (arith, c .place .ensures, room (c .before))
-
-slice-write-terms : tie.Need-slice-write-terms Inv-loop μ-loop
-slice-write-terms c = omega (arith, c .place .ensures, room (c .before))
+put-term-requires : tie.Need-put-term-requires Inv-loop μ-loop
+put-term-requires c κs = let placed = c .before in omega (arith, placed .place .ensures, room (placed .before))
 
 add-j : tie.Need-add-j Inv-loop μ-loop
 add-j c = omega arith
@@ -50,10 +48,13 @@ loop-again c =
     let terms = c .before .before .before .before .before .pre .0 in
     let test = sym (c .before .contains .ensures) in
     ⊎-elim
-    (λ in-it. (
+    (λ in-it.
+    let col = in-it .1 .ensures in
+    let put = in-it .3 .ensures in
+    let after = in-it .6 in (
       omega arith,
-      rw (in-it .2) (simp length-set (turn .inv .1)),
-      rw (in-it .2, in-it .1 .ensures)
+      rw (after, put) (simp length-set (turn .inv .1)),
+      rw (after, put, col)
           (list-take _ _ terms (turn .j) (turn .terms) (test ∙ in-it .0 .taken) (room (record { before = c .before; if1 = in-it .0 })) (turn .inv .2)),
     ))
     (λ not-in. (omega arith, rw (not-in .1) (turn .inv .1), rw (not-in .1) (list-skip _ _ terms (turn .j) (turn .terms) (test ∙ not-in .0 .left) (turn .inv .2))))
@@ -68,4 +69,4 @@ returns c = let end = c .before .loop in list-end _ _ (c .before .before .before
 pub list-terms-spec : {M : Type 1} → statement M
 list-terms-spec =
     tie.close
-    (tie.spec Inv-loop μ-loop loop-holds contains-requires place-requires mul-terms slice-write-terms add-j loop-less loop-again same-length returns)
+    (tie.spec Inv-loop μ-loop loop-holds contains-requires place-requires put-term-requires add-j loop-less loop-again same-length returns)
