@@ -11,7 +11,7 @@ use Rattle.refusal.specs.Answers.{refuse-if, if-done}
 use Rattle.refusal.specs.declared.Answer.{Answer}
 use Rattle.refusal.specs.declared.Answer.the-variants.{Done}
 use Rattle.refusal.specs.declared.Refusal.the-variants.{ManyColumns, ManyRows, MatrixLength, OutputLength, FewRows, WorkspaceShort}
-use Rattle.decomp.specs.Qr.{after, betas}
+use Rattle.householder.specs.Qr.{after, betas}
 
 -- the first refusal that applies to m rows, n columns and these lengths: of the matrix, of both outputs, of the workspace
 unfoldable pub qr-sizes : ℕ → ℕ → ℕ → ℕ → ℕ → ℕ → Answer

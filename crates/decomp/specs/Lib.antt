@@ -1,5 +1,3 @@
--- Householder QR and Q-transpose. Assumes nothing.
-pub mod Qr
-pub mod Steps
+-- What `qr` promises. Assumes nothing.
 pub mod Calls
 pub mod Unique

@@ -1,7 +1,6 @@
-// Householder QR.
-pub mod inner;
-
+// Householder QR: the public call.
 ghost use Rattle.decomp.specs.Calls.{QrCall};
+use householder::inner::factor;
 use refusal::Answer;
 use refusal::Refusal;
 use slices::inner::clear;
@@ -40,7 +39,7 @@ pub fn qr(
         return Answer::Refused(Refusal::WorkspaceShort);
     }
     copy(a, data);
-    inner::factor(data, betas, m, n);
+    factor(data, betas, m, n);
     clear(workspace, m);
     Answer::Done
 }

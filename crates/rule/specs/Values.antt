@@ -20,7 +20,7 @@ use Rattle.support.specs.CountLaws.{ones-full}
 use Rattle.refusal.specs.Answers.{solved, solution}
 use Rattle.builders.specs.Products.{gram, moment, ridge, damped, jtj-matrix, jtr-column, columns}
 use Rattle.builders.specs.ProductLaws.{gram-cong, moment-cong, columns-full}
-use Rattle.decomp.specs.Qr.{turn, qt, after, betas}
+use Rattle.householder.specs.Qr.{turn, qt, after, betas}
 use Rattle.cholesky.specs.Cholesky.{chol-forward, chol-back, chol-end, chol-factor, cholesky}
 use Rattle.lu.specs.Lu.{pivot-row, swap-rows, lu-swap, lu-eliminate, lu-pivoted, lu-column, lu-factor, lu-forward, lu-back, lu-end, lu}
 use Rattle.normal.specs.Normal.{right, or-lu, normal}

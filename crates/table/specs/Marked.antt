@@ -4,7 +4,7 @@ use mathlib.Core.List.{[], _∷_}
 use Rattle.steps.specs.Num.{lit, +zero, -zero, one, -one, two}
 use Rattle.steps.specs.Loops.{going}
 use Rattle.float64.specs.Root.{rootOf}
-use Rattle.decomp.specs.Qr.{after, betas}
+use Rattle.householder.specs.Qr.{after, betas}
 use Rattle.lu.specs.Lu.{lu}
 use Rattle.rule.specs.declared.Solver.the-variants.{Normal}
 use Rattle.rule.specs.declared.Stop.the-variants.{FirstRefused, Empty, Settled, OutOfRounds}

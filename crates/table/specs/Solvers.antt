@@ -11,7 +11,7 @@ use Rattle.steps.specs.Table as T
 use Rattle.steps.specs.Space as P
 use Rattle.float64.specs.Root as R
 use Rattle.refusal.specs.Answers.{solved}
-use Rattle.decomp.specs.Qr as Q
+use Rattle.householder.specs.Qr as Q
 use Rattle.cholesky.specs.Cholesky as C
 use Rattle.lu.specs.Lu as U
 use Rattle.normal.specs.Normal as E

@@ -10,7 +10,7 @@ use lib.ListN.{length}
 use lib.Ieee.{Float}
 use Rattle.refusal.specs.declared.Answer.the-variants.{Refused}
 use Rattle.refusal.specs.declared.Refusal.{Refusal}
-use Rattle.decomp.specs.Qr.{after, betas}
+use Rattle.householder.specs.Qr.{after, betas}
 use Rattle.decomp.specs.Calls.{QrCall, qr-sizes}
 use Rattle.decomp.proofs.qr.Statement.{statement}
 use Rattle.decomp.proofs.qr.Tie as tie
