@@ -2,8 +2,8 @@
 ghost use Prim.Native.Nat.{min};
 ghost use mathlib.Core.Path.{_≡_};
 ghost use Rattle.io.specs.Counts.{Counts};
-use input::Input;
-use input::read_whole;
+use input::inner::Input;
+use input::inner::read_whole;
 
 fn smaller(a: usize, b: usize) -> usize
     ensures { λ r. ⌜ r ≡ min a b ⌝ }

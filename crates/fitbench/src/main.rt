@@ -1,6 +1,6 @@
 // The bench program: reads standard input whole, and writes the answer to standard output.
-use input::Input;
-use input::read_whole;
+use input::inner::Input;
+use input::inner::read_whole;
 use libc::STDOUT_FILENO;
 
 // One byte more than the longest valid input has: 45 for the header, 128 rows of 17 numbers and a newline. What a longer input has beyond it changes no answer (frames' `cut-alike`).

@@ -4,10 +4,10 @@ use mathlib.Core.Path.{_≡_, subst}
 use mathlib.Core.List.{List}
 use lib.IntN.{ℤ, pos, negsuc}
 use Rattle.io.specs.Counts.{Counts}
-use Rattle.input.specs.declared.Input.{Input}
-use Rattle.input.specs.declared.Input.the-variants.{Whole, Failed}
-use Rattle.input.specs.declared.Next.{Next}
-use Rattle.input.specs.declared.Next.the-variants as N
+use Rattle.input.specs.declared.inner.Input.{Input}
+use Rattle.input.specs.declared.inner.Input.the-variants.{Whole, Failed}
+use Rattle.input.specs.declared.inner.Next.{Next}
+use Rattle.input.specs.declared.inner.Next.the-variants as N
 
 -- after n bytes a read answered: below zero it failed, 0 is the input's end, else so many more came
 abbrev pub after-read : ℕ → ℤ → Next

@@ -11,10 +11,10 @@ use mir.Facts.{toZ-ofZ}
 use borrow.Author.Needs.{needs}
 use Rattle.io.proofs.Counting.{counts}
 use Rattle.libc.specs.Io.{Moved}
-use Rattle.input.specs.declared.Next.the-variants.{More}
+use Rattle.input.specs.declared.inner.Next.the-variants.{More}
 use Rattle.input.specs.Read.{Came, after-read}
-use Rattle.input.proofs.read_whole.Statement.{statement}
-use Rattle.input.proofs.read_whole.Tie as tie
+use Rattle.input.proofs.inner.read_whole.Statement.{statement}
+use Rattle.input.proofs.inner.read_whole.Tie as tie
 
 -- what a read answers fits its type
 moved-fits : (left : ℕ) (z : ℤ) → left ≤ 0x7fff_ffff_ffff_ffff → Moved left z → SFits w64 z

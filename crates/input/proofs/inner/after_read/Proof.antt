@@ -11,11 +11,11 @@ use mir.Val.{toZ, ofZ}
 use mir.Facts.{toZ-ofZ, fits-natAbs, sfits-toZ, fits-ofZ}
 use borrow.Author.Tests.{ltb-true, ltb-false}
 use Rattle.libc.specs.Io.{Moved}
-use Rattle.input.specs.declared.Next.{Next}
-use Rattle.input.specs.declared.Next.the-variants.{More, Ended, Failed}
+use Rattle.input.specs.declared.inner.Next.{Next}
+use Rattle.input.specs.declared.inner.Next.the-variants.{More, Ended, Failed}
 use Rattle.input.specs.Read.{after-read}
-use Rattle.input.proofs.after_read.Statement.{statement}
-use Rattle.input.proofs.after_read.Tie as tie
+use Rattle.input.proofs.inner.after_read.Statement.{statement}
+use Rattle.input.proofs.inner.after_read.Tie as tie
 
 -- ---- each way out, by the number's sign
 

@@ -1,0 +1,51 @@
+// Standard input, read whole, by the assumed contract of read: how many bytes came, not which.
+ghost use mathlib.Core.Path.{_≡_};
+ghost use Prim.Native.Nat.{_+_, _≤_};
+ghost use lib.ListN.{length};
+ghost use Rattle.libc.specs.Io.{Moved};
+ghost use Rattle.input.specs.Read.{Came, after-read};
+use libc::STDIN_FILENO;
+
+// What reading gives: so many bytes, or a read that failed.
+pub enum Input {
+    Whole(usize),
+    Failed,
+}
+
+// What one read tells: so many bytes have come and there may be more, the input has ended, or the read failed.
+enum Next {
+    More(usize),
+    Ended,
+    Failed,
+}
+
+// After n bytes, a read with room for `left` more answered `got`.
+fn after_read(n: usize, got: isize, left: usize) -> Next
+    requires { ⌜ Moved left got ⌝ ∗ ⌜ n + left ≤ 0x7fff_ffff_ffff_ffff ⌝ }
+    ensures { λ r. ⌜ r ≡ after-read n got ⌝ }
+{
+    if got < 0 {
+        return Next::Failed;
+    }
+    if got > 0 {
+        return Next::More(n + got as usize);
+    }
+    Next::Ended
+}
+
+// Reads until the input ends or `room` is full.
+pub fn read_whole(room: &mut [u8]) -> Input
+    ensures { λ r. ⌜ Came r (now (room .exit)) ⌝ }
+{
+    let mut n = 0;
+    while n < room.len() {
+        let left = room.len() - n;
+        let got = libc::read(STDIN_FILENO, &mut room[n..]);
+        match after_read(n, got, left) {
+            Next::More(k) => n = k,
+            Next::Ended => return Input::Whole(n),
+            Next::Failed => return Input::Failed,
+        }
+    }
+    Input::Whole(n)
+}
