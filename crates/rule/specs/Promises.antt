@@ -2,20 +2,26 @@
 use mathlib.Core.Path.{_≡_, refl, sym, subst}
 use mathlib.Core.Logic.{_≢_}
 use mathlib.Core.Bool.{Bool, true, false, _||_, _&&_}
-use Prim.Native.Nat.{ℕ, _*_, _<_}
+use Prim.Native.Nat.{ℕ, _*_, _^_, _≤_, _<_}
 use native.Mathlib.Omega.{arith}
+use lib.Count.{ones}
 use lib.Dec.{T, eqb, ltb, ltb→lt, eqb→eq}
-use lib.Ieee.{Float, nan, inf, fin, ofBits, lt, le, eq, up, down}
+use lib.Ieee.{Float, nan, inf, fin, binary64, fits, ofBits, lt, le, eq, up, down}
 use Rattle.steps.specs.Num.{+zero, at, Entry}
 use Rattle.float64.specs.Root.{absOf}
 use Rattle.support.specs.Word.{has}
+use Rattle.builders.specs.Products.{columns}
 use Rattle.rule.specs.declared.Setup.{Setup}
 use Rattle.rule.specs.declared.Solver.{Solver}
 use Rattle.rule.specs.declared.Stop.the-variants.{OutOfRounds}
 use Rattle.rule.specs.Rule.{Problem, zeros}
 use Rattle.rule.specs.Fits.{keeps, solves, problem, fit-by}
-use Rattle.rule.specs.Stable.{Steady, steady, Bounded, bounded, ZeroKept}
-use Rattle.rule.specs.Endings.{Zeroed, ends-with-zeros, no-nan, kept-rule}
+use Rattle.rule.specs.Stable.{Steady, steady, Bounded, ZeroKept, refits-few}
+use Rattle.rule.specs.Shrinking.{bounded}
+use Rattle.rule.specs.Endings.{Zeroed, ends-with-zeros, no-nan, kept-lt, kept-rule}
+use Rattle.rule.specs.Rounded.{Rounded, in-format}
+use Rattle.rule.specs.Values.{solved-column}
+use Rattle.rule.specs.Made.{made-coeffs}
 
 -- above zero, nothing is kept at +0.0
 no-gap : (x y : ℕ) → T (ltb y x) → T (ltb x y || (eqb x y && true)) → ⊥
@@ -66,7 +72,30 @@ module _ (solver : Solver) (e : Entry) (t : ℕ → Float) (rows n : ℕ) (setup
   unfolding fit-by problem
   numbers-left k j l = no-nan (of solver e t rows n (setup .threshold) (setup .lambda)) (nan-out (setup .threshold)) (setup .«max_iter») k j l
 
+  -- never more refits than rounds, at any threshold
+  pub refits-at-most : fit-by solver e t rows n setup .refits ≤ setup .«max_iter»
+  unfolding fit-by
+  refits-at-most = refits-few (of solver e t rows n (setup .threshold) (setup .lambda)) (setup .«max_iter»)
+
+  -- the kept word is of the n terms
+  pub kept-below : fit-by solver e t rows n setup .kept < 2 ^ n
+  unfolding fit-by problem
+  kept-below = kept-lt (of solver e t rows n (setup .threshold) (setup .lambda)) (setup .«max_iter»)
+
   -- bit j is one exactly if j is below n_cols and the final |c(j)| is at least the threshold
   pub kept-word : (j : ℕ) → has (fit-by solver e t rows n setup .kept) j ≡ (ltb j n && le (setup .threshold) (absOf (at (fit-by solver e t rows n setup .coeffs) j)))
   unfolding fit-by problem keeps
   kept-word j = kept-rule (of solver e t rows n (setup .threshold) (setup .lambda)) (setup .«max_iter») j
+
+  -- what holds of the target's numbers and of every result of an operation holds of each coefficient
+  pub coefficients-made : {Q : Float → Type 0} → Rounded Q → ((i : ℕ) → Q (t i)) → (j : ℕ) → Q (at (fit-by solver e t rows n setup .coeffs) j)
+  unfolding fit-by problem
+  coefficients-made made h =
+      made-coeffs (of solver e t rows n (setup .threshold) (setup .lambda)) made
+      (λ vs q. solved-column made solver (setup .lambda) t rows n e vs h q .each)
+      (λ w vs q. solved-column made solver (setup .lambda) t rows (ones w) (columns n w e) vs h q .each)
+      (setup .«max_iter»)
+
+  -- so each is a binary64 where the target's numbers are, whatever theta, threshold and lambda hold
+  pub coefficients-fit : ((i : ℕ) → T (fits binary64 (t i))) → (j : ℕ) → T (fits binary64 (at (fit-by solver e t rows n setup .coeffs) j))
+  coefficients-fit = coefficients-made in-format
