@@ -3,6 +3,7 @@ pub mod Codes
 pub mod Rule
 pub mod Fits
 pub mod Calls
+pub mod Accepted
 pub mod Unique
 pub mod Course
 pub mod Stable
@@ -13,3 +14,4 @@ pub mod RightSides
 pub mod Values
 pub mod Made
 pub mod Promises
+pub mod Demand3

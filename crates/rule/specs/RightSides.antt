@@ -4,7 +4,7 @@ use mathlib.Core.List.{List}
 use Prim.Native.Nat.{ℕ, _≤_}
 use native.Mathlib.Omega.{arith}
 use lib.Dec.{eqb}
-use lib.ListN.{length, set, take}
+use lib.ListN.{take}
 use lib.Ieee.{Float, lt}
 use Rattle.steps.specs.Num.{1e-15, at, cell}
 use Rattle.steps.specs.Cond.{either}
