@@ -1,5 +1,5 @@
--- Demand 3 over calls, for both fits: what two calls on the same data give, and how far a call goes. `FitCall` is the contract of `strlsq` and of `strlsq_qr`.
--- A call fits if it answers a report; it does so exactly where no refusal applies. Assumes nothing.
+-- Demand 3, over calls of `strlsq` and of `strlsq_qr`, whose contract is `FitCall`: what two calls on the same data give, and how far one goes.
+-- A call fits if it answers a report, and it does so exactly where no refusal applies. Assumes nothing.
 use mathlib.Core.Path.{_≡_, sym, ap, _∙_}
 use mathlib.Core.Logic.{_≢_}
 use mathlib.Core.List.{List}
@@ -21,7 +21,7 @@ use Rattle.rule.specs.Accepted.{Acceptable, answers, leaves, was-accepta
 use Rattle.rule.specs.Stable.{Falling}
 use Rattle.rule.specs.Promises.{of, stable, bounds}
 
--- what a report of a fit of n columns within a limit of rounds says of its refits, whose supports are ws, the newest first
+-- what the report of n columns within a limit of rounds says of the refits, whose supports are ws, the newest first
 pub record Few (ws : List ℕ) (n limit : ℕ) (report : Report) : Type 0 where
   -- it counts them
   pub counted : report .refits ≡ length ws
@@ -31,12 +31,12 @@ pub record Few (ws : List ℕ) (n limit : ℕ) (report : Report) : Type 0 where
   pub few-cols : report .refits ≤ n
   pub few-rounds : report .refits ≤ limit
 
--- the same solver, data, threshold and lambda
+-- the same solver, data, threshold and lambda throughout
 module _ (solver : Solver) (theta target : List Float) (rows n : ℕ) (threshold lambda : Float) where
   abbrev pub within : ℕ → Setup
   within limit = record { threshold = threshold; lambda = lambda; «max_iter» = limit }
 
-  -- a call at a limit of rounds: the coefficients' slice before and after, the workspace before and after, and the answer
+  -- a call at a limit of rounds: the coefficients before and after, the workspace before and after, and the answer
   abbrev pub Call : ℕ → List Float → List Float → List Float → List Float → Fitted → Type 0
   Call limit cs cs' w w' answer = FitCall solver theta target rows n (within limit) cs cs' w w' answer
 
@@ -50,16 +50,16 @@ module _ (solver : Solver) (theta target : List Float) (rows n : ℕ) (threshold
 
   -- at any threshold: if a call fits and stops for any reason but running out of rounds, every call with a larger permitted limit
   -- (and slices that are long enough) gives the same report and the same coefficients, whatever its slices held
-  pub calls-stable : {r m : ℕ} {ds v cs cs' w w' ds' v' : List Float} {report : Report} {answer : Fitted}
+  pub calls-stable : {r m : ℕ} {report : Report} {ds v cs cs' w w' ds' v' : List Float} {answer : Fitted}
       → Call r cs cs' w w' (F.Fit report) → report .stop ≢ OutOfRounds
       → r ≤ m → m ≤ 1000 → length ds ≡ n → fit-need solver rows n ≤ length v → Call m ds ds' v v' answer
       → (answer ≡ F.Fit report) × (ds' ≡ cs')
   unfolding fit-by
-  calls-stable {r} {m} {ds} {v} one stops more permitted long room two =
+  calls-stable {r} {m} {report} {ds} {v} one stops more permitted long room two =
       let a = was-acceptable one in
       let b : Acceptable solver rows n m (length theta) (length target) (length ds) (length v)
       = record { few-cols = a .few-cols; few-rows = a .few-rows; few-rounds = permitted; theta-long = a .theta-long; target-long = a .target-long; coeffs-long = long; space-long = room } in
-      let told = report-is one in
+      let told : report ≡ report-of (rule r) = report-is one in
       let same : rule m ≡ rule r = stable solver (cell n theta) (at target) rows n threshold lambda .steady r m more (λ e. stops (ap (λ p. p .stop) told ∙ e)) in
       (answers b two ∙ ap (λ f. F.Fit (report-of f)) same ∙ ap F.Fit (sym told), leaves b two ∙ ap (λ f. f .coeffs) same ∙ sym (leaves a one))
 

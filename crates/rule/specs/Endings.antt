@@ -47,11 +47,12 @@ module _ (P : Problem) where
     pub refitted : Refitted cs (latest ws)
     pub same : support P cs ≡ latest ws
 
-  -- what holds after each round
+  -- while a fit goes on: its coefficients are those of the last refit, if there was one
   Placed : List Float → List ℕ → Type 0
   Placed cs [] = Unit {0}
   Placed cs (w ∷ ws) = Refitted cs w
 
+  -- once it is done, by its stop
   Ending : Stop → List Float → List ℕ → Type 0
   Ending NoData cs ws = cs ≡ zeros (P .cols)
   Ending FirstRefused cs ws = cs ≡ zeros (P .cols)
@@ -60,10 +61,12 @@ module _ (P : Problem) where
   Ending Settled cs ws = Closed cs ws
   Ending OutOfRounds cs ws = ⊥
 
+  -- so after each round
   Sound : State → Type 0
   Sound (going cs ws) = Placed cs ws
   Sound (done t cs ws) = Ending t cs ws
 
+  -- a look that finds the last refitted support finds one that was refitted: it has some term
   settles : (cs : List Float) (ws : List ℕ) → support P cs ≢ 0 → support P cs ≡ latest ws → Placed cs ws → Closed cs ws
   unfolding Placed
   settles cs [] z e p = absurd (z e)
