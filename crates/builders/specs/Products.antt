@@ -21,7 +21,7 @@ moment e t rows p = sum +zero 0 rows (λ i. times (e i p) (t i))
 unfoldable pub ridge : Float → Float → Float
 ridge lambda d = plus d lambda
 
--- the pair sums g, those on the diagonal damped
+-- the pair sums g, those on the diagonal damped (by `ridge` alone today; a later order damps in proportion)
 unfoldable pub damped : (Float → Float) → Entry → Entry
 damped damp g p q = cond (eqb p q) (damp (g p q)) (g p q)
 

@@ -1,15 +1,13 @@
 -- The answer by its cases, and what was tested of an accepted input. Assumes nothing.
-use mathlib.Core.Path.{_≡_, refl}
-use mathlib.Core.Bool.{Bool, true, false, not}
+use mathlib.Core.Path.{_≡_}
+use mathlib.Core.Bool.{not}
 use mathlib.Core.List.{List}
 use Prim.Native.Nat.{ℕ}
-use native.Mathlib.Omega.{arith}
 use borrow.Author.Tests.{ltb-false, not-false}
 use lib.Dec.{ltb}
-use Rattle.refusal.specs.Answers.{refuse-if}
+use Rattle.refusal.specs.Ladder.{passed}
 use Rattle.refusal.specs.declared.Answer.{Answer}
 use Rattle.refusal.specs.declared.Answer.the-variants.{Done}
-use Rattle.refusal.specs.declared.Refusal.{Refusal}
 use Rattle.refusal.specs.declared.Refusal.the-variants.{ManyColumns, ManyRows, ManyRounds, Malformed}
 use Rattle.reader.specs.Header.{head-of}
 use Rattle.reader.specs.Rows.{rows-formed}
@@ -28,17 +26,12 @@ pub answer-good : (s : List ℕ) (h : Header) (a : Answer) → head-of s ≡ Goo
 unfolding answer-of answer-to
 answer-good s h a e f = rw (e, f)
 
--- refused by a test that holds is not accepted
-if-not : (t : Bool) (x : Refusal) (next : Answer) → refuse-if t x next ≡ Done → (t ≡ false) × (next ≡ Done)
-if-not true x next e = let z : _≡_ {A = ℕ} 0 1 = cc in absurd (omega arith)
-if-not false x next e = (refl, e)
-
 -- an accepted input is within the limits, and its rows are well formed
 pub accepted : (s : List ℕ) (h : Header) → checked s h ≡ Done → Accepted s h
 unfolding checked
 accepted s h e =
-    let one = if-not (ltb 16 (h .cols)) ManyColumns _ e in
-    let two = if-not (ltb 128 (h .rows)) ManyRows _ (one .1) in
-    let three = if-not (ltb 1000 (h .setup .«max_iter»)) ManyRounds _ (two .1) in
-    let four = if-not (not (rows-formed s (h .rows) (h .cols))) Malformed _ (three .1) in
+    let one = passed (ltb 16 (h .cols)) ManyColumns _ e in
+    let two = passed (ltb 128 (h .rows)) ManyRows _ (one .1) in
+    let three = passed (ltb 1000 (h .setup .«max_iter»)) ManyRounds _ (two .1) in
+    let four = passed (not (rows-formed s (h .rows) (h .cols))) Malformed _ (three .1) in
     record { rows-fine = record { few-cols = ltb-false _ _ (one .0); few-rows = ltb-false _ _ (two .0); formed = not-false _ (four .0) }; few-rounds = ltb-false _ _ (three .0) }

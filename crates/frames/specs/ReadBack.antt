@@ -7,15 +7,20 @@ use lib.Dec.{T, lit<}
 use lib.ListN.{length, take, drop, length-append}
 use lib.Seq.{split-at, append-snoc, length-take-le}
 use lib.Ieee.{Float, nan, binary64, fits}
+use lib.Ieee.Bits.{ofBits-fits}
 use Rattle.steps.specs.Num.{at}
+use Rattle.steps.specs.Table.{tab}
 use Rattle.hex.specs.Hex.{number, float, digits, bits, newline}
 use Rattle.hex.specs.ReadBack.{length-digits, read-back, float-back}
 use Rattle.rule.specs.Rule.{Fit}
 use Rattle.rule.specs.Codes.{stop-code}
+use Rattle.rule.specs.Rounded.{in-format, tab-column}
+use Rattle.rule.specs.Promises.{coefficients-fit}
 use Rattle.rule.specs.declared.Stop.{Stop}
 use Rattle.rule.specs.declared.Stop.the-variants.{NoData, FirstRefused, Empty, RefitRefused, Settled, OutOfRounds}
 use Rattle.frames.specs.Answer.{report-line, coefficient-lines}
 use Rattle.reader.specs.Header.{head-of}
+use Rattle.reader.specs.Rows.{target}
 use Rattle.frames.specs.Exchange.{checked, fit-of, fit-lines, answer-lines, answer-of}
 use Rattle.frames.specs.Cases.{answer-good, accepted}
 use Rattle.frames.specs.Lines.{lines-append, length-lines, length-report}
@@ -58,7 +63,7 @@ module _ (report : List ℕ) (xs : List Float) (j : ℕ) (h : j < length xs) (f 
       rw (line-at xs j h, ← append-assoc report (coefficient-lines (take j xs)), ← place) (float-back (at xs j) before _ f)
 
 -- lines say what was written, where its digits hold it
-lines-read-back : (f : Fit) → f .refits < 16 ^ 4 → f .kept < 16 ^ 16 → ((j : ℕ) → j < length (f .coeffs) → T (fits binary64 (at (f .coeffs) j))) → Says (fit-lines f) f
+lines-read-back : (f : Fit) → f .refits < 16 ^ 4 → f .kept < 16 ^ 16 → ((j : ℕ) → T (fits binary64 (at (f .coeffs) j))) → Says (fit-lines f) f
 unfolding fit-lines report-line
 lines-read-back f r k g =
     let stop = digits 2 (stop-code (f .stop)) in
@@ -68,12 +73,19 @@ lines-read-back f r k g =
       stop = number-in _ [] (refits ++ (digits 16 (f .kept) ++ lines)) 0 2 _ (simp append-assoc) refl (code-lt (f .stop));
       refits = number-in _ stop (digits 16 (f .kept) ++ lines) 2 4 _ (simp append-assoc) (length-digits 2 _) r;
       kept = number-in _ (stop ++ refits) lines 6 16 _ (simp append-assoc) (simp (length-append, length-digits)) k;
-      coefficient = λ j h. coefficient-back (report-line (f .stop) (f .refits) (f .kept)) (f .coeffs) j h (g j h) (length-report (f .stop) (f .refits) (f .kept));
+      coefficient = λ j h. coefficient-back (report-line (f .stop) (f .refits) (f .kept)) (f .coeffs) j h (g j) (length-report (f .stop) (f .refits) (f .kept));
     }
 
+-- every coefficient of an input's fit is a binary64, since the digits of a target are read as one
+coefficients-held : (s : List ℕ) (h : Header) (j : ℕ) → T (fits binary64 (at (fit-of s h .coeffs) j))
+unfolding fit-of
+coefficients-held s h =
+    let read = tab-column in-format (h .rows) (target s (h .cols)) (λ r. ofBits-fits binary64 _) in
+    coefficients-fit (h .solver) _ (at (tab (h .rows) (target s (h .cols)))) (h .rows) (h .cols) (h .setup) (read .each)
+
 -- the answer to an accepted input says its fit: the stop, the refits, the kept word, and each coefficient, a NaN as a NaN
-pub answer-read-back : (s : List ℕ) (h : Header) → head-of s ≡ Good h → checked s h ≡ Done → ((j : ℕ) → j < length (fit-of s h .coeffs) → T (fits binary64 (at (fit-of s h .coeffs) j))) → Says (answer-of s) (fit-of s h)
+pub answer-read-back : (s : List ℕ) (h : Header) → head-of s ≡ Good h → checked s h ≡ Done → Says (answer-of s) (fit-of s h)
 unfolding answer-lines
-answer-read-back s h e c g =
+answer-read-back s h e c =
     let ok = accepted s h c in
-    rw (answer-good s h Done e c) (lines-read-back (fit-of s h) (refits-within s h ok) (kept-within s h ok) g)
+    rw (answer-good s h Done e c) (lines-read-back (fit-of s h) (refits-within s h ok) (kept-within s h ok) (coefficients-held s h))

@@ -54,7 +54,7 @@ abbrev pub ended : {S : Type 0} → Refusal → Way S → Answer
 ended w (going s) = Done
 ended w (stopped c s) = Refused w
 
--- what a solve gives: the values of its columns, or the column at which it refused
+-- what a solve gives: the values of its columns, or the column at which it refused (no report tells it yet: a later order does)
 pub data Solution : Type 0 where
   solved : List Float → Solution
   refused : ℕ → Solution

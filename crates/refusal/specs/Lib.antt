@@ -1,3 +1,4 @@
 -- What the calls answer. Assumes nothing.
 pub mod Answers
+pub mod Ladder
 pub mod Unique

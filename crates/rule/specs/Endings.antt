@@ -3,20 +3,20 @@ use mathlib.Core.Path.{_≡_, refl, sym, ap, _∙_, subst}
 use mathlib.Core.Logic.{_≢_, _⊎_, ⊎-elim}
 use mathlib.Core.Bool.{Bool, false, cond, _&&_}
 use mathlib.Core.List.{List, [], _∷_}
-use Prim.Native.Nat.{ℕ, zero, suc, _<_}
-use borrow.Author.Tests.{eqb-true, eqb-false, lt-ltb, le-ltb}
-use lib.Dec.{eqb, ltb}
+use Prim.Native.Nat.{ℕ, _^_, _<_}
+use borrow.Author.Tests.{lt-ltb, le-ltb}
+use lib.Dec.{ltb}
 use lib.ListN.{getD-replicate}
 use lib.Ieee.{Float, nan, inf, fin, ofBits}
 use Rattle.steps.specs.Num.{+zero, at}
 use Rattle.steps.specs.Cond.{either, lt-or-ge}
 use Rattle.steps.specs.Table.{getD-tab, tab-cong, tab-replicate}
-use Rattle.refusal.specs.Answers.{Solution, solved, refused}
 use Rattle.support.specs.Word.{has, place}
 use Rattle.support.specs.WordLaws.{word-lt, has-word, has-beyond}
 use Rattle.rule.specs.declared.Stop.{Stop}
 use Rattle.rule.specs.declared.Stop.the-variants.{NoData, FirstRefused, Empty, RefitRefused, Settled, OutOfRounds}
-use Rattle.rule.specs.Rule.{Problem, State, going, done, latest, zeros, support, scatter, refit, look, round, first, start, rounds, pruned, reported, finish, fit}
+use Rattle.rule.specs.Rule.{Problem, State, going, done, latest, zeros, support, scatter, refit, first, pruned, reported, fit}
+use Rattle.rule.specs.Course.{Course, of-report, of-fit}
 
 -- the stops that leave only zeros: no data, a refused solve, an empty support
 abbrev pub Zeroed : Stop → Type 0
@@ -47,11 +47,12 @@ module _ (P : Problem) where
     pub refitted : Refitted cs (latest ws)
     pub same : support P cs ≡ latest ws
 
-  -- what holds after each round
+  -- while a fit goes on: its coefficients are those of the last refit, if there was one
   Placed : List Float → List ℕ → Type 0
   Placed cs [] = Unit {0}
   Placed cs (w ∷ ws) = Refitted cs w
 
+  -- once it is done, by its stop
   Ending : Stop → List Float → List ℕ → Type 0
   Ending NoData cs ws = cs ≡ zeros (P .cols)
   Ending FirstRefused cs ws = cs ≡ zeros (P .cols)
@@ -60,38 +61,29 @@ module _ (P : Problem) where
   Ending Settled cs ws = Closed cs ws
   Ending OutOfRounds cs ws = ⊥
 
+  -- so after each round
   Sound : State → Type 0
   Sound (going cs ws) = Placed cs ws
   Sound (done t cs ws) = Ending t cs ws
 
+  -- a look that finds the last refitted support finds one that was refitted: it has some term
   settles : (cs : List Float) (ws : List ℕ) → support P cs ≢ 0 → support P cs ≡ latest ws → Placed cs ws → Closed cs ws
   unfolding Placed
   settles cs [] z e p = absurd (z e)
   settles cs (w ∷ ws) z e p = record { refitted = p; same = e }
 
-  step : (s : State) → Sound s → Sound (round P s)
-  unfolding Sound Ending Placed round look refit
-  step (done t cs ws) i = i
-  step (going cs ws) i =
-      either Sound (eqb w 0) _ _ (λ t. refl)
-      (λ z. either Sound (eqb w (latest ws)) _ _ (λ t. settles cs ws (eqb-false w 0 z) (eqb-true w (latest ws) t) i) (λ l. solving (P .solve w)))
-    where
-      w : ℕ
-      w = support P cs
-
-      solving : (a : Solution) → Sound (refit P ws w a)
-      solving (refused c) = refl
-      solving (solved vs) = record { values = vs; placed = refl }
-
-  sound : (r : ℕ) → Sound (rounds P r)
-  unfolding Sound Ending Placed rounds start first
-  sound zero =
-      either Sound (eqb (P .rows) 0) _ _ (λ t. refl) (λ k. either Sound (eqb (P .cols) 0) _ _ (λ t. refl) (λ l. begun (P .whole)))
-    where
-      begun : (a : Solution) → Sound (first P a)
-      begun (refused c) = refl
-      begun (solved vs) = tt
-  sound (suc r) = step (rounds P r) (sound r)
+  sound : Course P (λ r. Sound)
+  unfolding Sound Ending Placed first refit
+  sound = record {
+    nothing = λ e. refl;
+    refused-first = λ e c q. refl;
+    begins = λ e vs q. tt;
+    rests = λ r t cs ws i. i;
+    empties = λ r cs ws i. refl;
+    settles = λ r cs ws i z e. settles cs ws z e i;
+    refused-later = λ r cs ws i z l c q. refl;
+    refits = λ r cs ws i z l vs q. record { values = vs; placed = refl };
+  }
 
   -- the last pass leaves zeros as they are
   pruned-zeros : pruned P (zeros (P .cols)) ≡ zeros (P .cols)
@@ -102,20 +94,16 @@ module _ (P : Problem) where
 
   -- a refused solve ends the fit with zeros, and so do no data and an empty support
   pub ends-with-zeros : (r : ℕ) → Zeroed (fit P r .stop) → fit P r .coeffs ≡ zeros (P .cols)
-  unfolding fit finish reported Sound Ending
-  ends-with-zeros r = go (rounds P r) (sound r)
+  unfolding reported Sound Ending
+  ends-with-zeros r = of-fit P sound (λ f. Zeroed (f .stop) → f .coeffs ≡ zeros (P .cols)) r (λ cs ws i z. absurd z) over
     where
-      all : {cs : List Float} → cs ≡ zeros (P .cols) → pruned P cs ≡ zeros (P .cols)
-      all e = ap (pruned P) e ∙ pruned-zeros
-
-      go : (s : State) → Sound s → Zeroed (finish P s .stop) → finish P s .coeffs ≡ zeros (P .cols)
-      go (going cs ws) i z = absurd z
-      go (done NoData cs ws) i z = all i
-      go (done FirstRefused cs ws) i z = all i
-      go (done Empty cs ws) i z = all i
-      go (done RefitRefused cs ws) i z = all i
-      go (done Settled cs ws) i z = absurd z
-      go (done OutOfRounds cs ws) i z = absurd z
+      over : (t : Stop) (cs : List Float) (ws : List ℕ) → Ending t cs ws → Zeroed t → pruned P cs ≡ zeros (P .cols)
+      over NoData cs ws i z = ap (pruned P) i ∙ pruned-zeros
+      over FirstRefused cs ws i z = ap (pruned P) i ∙ pruned-zeros
+      over Empty cs ws i z = ap (pruned P) i ∙ pruned-zeros
+      over RefitRefused cs ws i z = ap (pruned P) i ∙ pruned-zeros
+      over Settled cs ws i z = absurd z
+      over OutOfRounds cs ws i z = absurd z
 
   -- settled coefficients hold no NaN where no look keeps one
   closed-number : ((j : ℕ) → P .keeps j nan ≡ false) → (cs : List Float) (ws : List ℕ) → Closed cs ws → (j : ℕ) → j < P .cols → at cs j ≢ nan
@@ -135,8 +123,8 @@ module _ (P : Problem) where
 
   -- only OutOfRounds can leave a NaN among the coefficients
   pub no-nan : ((j : ℕ) → P .keeps j nan ≡ false) → (r : ℕ) → fit P r .stop ≢ OutOfRounds → (j : ℕ) → j < P .cols → at (fit P r .coeffs) j ≢ nan
-  unfolding fit finish reported Sound Ending pruned
-  no-nan h r k j l = go (rounds P r) (sound r) k
+  unfolding reported Sound Ending pruned
+  no-nan h r k j l = of-fit P sound (λ f. f .stop ≢ OutOfRounds → at (f .coeffs) j ≢ nan) r (λ cs ws i n. absurd (n refl)) (λ t cs ws i n. over t cs ws i) k
     where
       from : (cs : List Float) → at cs j ≢ nan → at (pruned P cs) j ≢ nan
       from cs n e = either (λ x. x ≢ nan) (P .clears j (at cs j)) +zero (at cs j) (λ t. +zero≢nan) (λ t. n) (sym (getD-tab (P .cols) _ j nan l) ∙ e)
@@ -144,26 +132,28 @@ module _ (P : Problem) where
       zeroed : (cs : List Float) → cs ≡ zeros (P .cols) → at (pruned P cs) j ≢ nan
       zeroed cs i = from cs (λ e. +zero≢nan (sym (ap (λ (x : List Float). at x j) i ∙ getD-replicate (P .cols) j +zero nan l) ∙ e))
 
-      go : (s : State) → Sound s → finish P s .stop ≢ OutOfRounds → at (finish P s .coeffs) j ≢ nan
-      go (going cs ws) i n = absurd (n refl)
-      go (done NoData cs ws) i n = zeroed cs i
-      go (done FirstRefused cs ws) i n = zeroed cs i
-      go (done Empty cs ws) i n = zeroed cs i
-      go (done RefitRefused cs ws) i n = zeroed cs i
-      go (done Settled cs ws) i n = from cs (closed-number h cs ws i j l)
-      go (done OutOfRounds cs ws) i n = absurd i
+      over : (t : Stop) (cs : List Float) (ws : List ℕ) → Ending t cs ws → at (pruned P cs) j ≢ nan
+      over NoData cs ws i = zeroed cs i
+      over FirstRefused cs ws i = zeroed cs i
+      over Empty cs ws i = zeroed cs i
+      over RefitRefused cs ws i = zeroed cs i
+      over Settled cs ws i = from cs (closed-number h cs ws i j l)
+      over OutOfRounds cs ws i = absurd i
 
-  -- bit j of the kept word is one exactly if j is below the column count and a look keeps the final c(j)
+  -- ---- the kept word
+
+  -- it is of the problem's terms
+  pub kept-lt : (r : ℕ) → fit P r .kept < 2 ^ P .cols
+  unfolding reported support
+  kept-lt r = of-report P (λ f. f .kept < 2 ^ P .cols) (λ t cs ws. word-lt _ (P .cols)) r
+
+  -- its bit j is one exactly if j is below the column count and a look keeps the final c(j)
   pub kept-rule : (r j : ℕ) → has (fit P r .kept) j ≡ (ltb j (P .cols) && P .keeps j (at (fit P r .coeffs) j))
-  unfolding fit finish reported support
-  kept-rule r j = go (rounds P r)
+  unfolding reported support
+  kept-rule r j = of-report P (λ f. has (f .kept) j ≡ (ltb j (P .cols) && P .keeps j (at (f .coeffs) j))) (λ t cs ws. rule (pruned P cs)) r
     where
       rule : (cs : List Float) → has (support P cs) j ≡ (ltb j (P .cols) && P .keeps j (at cs j))
       rule cs = ⊎-elim
           (λ h. has-word _ (P .cols) j h ∙ sym (ap (λ (t : Bool). t && P .keeps j (at cs j)) (lt-ltb j (P .cols) h)))
           (λ h. has-beyond _ (P .cols) j (word-lt _ (P .cols)) h ∙ sym (ap (λ (t : Bool). t && P .keeps j (at cs j)) (le-ltb j (P .cols) h)))
           (lt-or-ge j (P .cols))
-
-      go : (s : State) → has (finish P s .kept) j ≡ (ltb j (P .cols) && P .keeps j (at (finish P s .coeffs) j))
-      go (going cs ws) = rule (pruned P cs)
-      go (done t cs ws) = rule (pruned P cs)

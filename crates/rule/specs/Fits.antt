@@ -16,11 +16,11 @@ use Rattle.rule.specs.declared.Setup.{Setup}
 use Rattle.rule.specs.declared.Solver.{Solver}
 use Rattle.rule.specs.declared.Solver.the-variants.{Normal, Qr}
 
--- the support is every term with |c| at least the threshold (NaN never is)
+-- the support is every term with |c| at least the threshold (NaN never is); the term number j is not looked at yet: a later order holds terms
 unfoldable pub keeps : Float → ℕ → Float → Bool
 keeps threshold j c = le threshold (absOf c)
 
--- the last pass clears each term with |c| below the threshold
+-- the last pass clears each term with |c| below the threshold; nor is j looked at here
 unfoldable pub clears : Float → ℕ → Float → Bool
 clears threshold j c = lt (absOf c) threshold
 
@@ -28,7 +28,8 @@ clears threshold j c = lt (absOf c) threshold
 abbrev pub Solves : Type 0
 Solves = ℕ → Entry → Solution
 
--- by the normal equations of c columns, from the pair sums g and the target products m, however these were made
+-- by the normal equations of c columns, from the pair sums g and the target products m, however these were made and are damped:
+-- today from the rows and by `ridge`; later orders keep the sums, or damp in proportion
 unfoldable pub by-sums : (Float → Float) → ℕ → Entry → (ℕ → Float) → Solution
 by-sums damp c g m = solution (normal c (jtj-matrix damp c g) (jtr-column c m))
 

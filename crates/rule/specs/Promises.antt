@@ -2,20 +2,26 @@
 use mathlib.Core.Path.{_≡_, refl, sym, subst}
 use mathlib.Core.Logic.{_≢_}
 use mathlib.Core.Bool.{Bool, true, false, _||_, _&&_}
-use Prim.Native.Nat.{ℕ, _*_, _<_}
+use Prim.Native.Nat.{ℕ, _*_, _^_, _≤_, _<_}
 use native.Mathlib.Omega.{arith}
+use lib.Count.{ones}
 use lib.Dec.{T, eqb, ltb, ltb→lt, eqb→eq}
-use lib.Ieee.{Float, nan, inf, fin, ofBits, lt, le, eq, up, down}
+use lib.Ieee.{Float, nan, inf, fin, binary64, fits, ofBits, lt, le, eq, up, down}
 use Rattle.steps.specs.Num.{+zero, at, Entry}
 use Rattle.float64.specs.Root.{absOf}
 use Rattle.support.specs.Word.{has}
+use Rattle.builders.specs.Products.{columns}
 use Rattle.rule.specs.declared.Setup.{Setup}
 use Rattle.rule.specs.declared.Solver.{Solver}
 use Rattle.rule.specs.declared.Stop.the-variants.{OutOfRounds}
-use Rattle.rule.specs.Rule.{Problem, zeros}
+use Rattle.rule.specs.Rule.{Problem, Fit, zeros}
 use Rattle.rule.specs.Fits.{keeps, solves, problem, fit-by}
-use Rattle.rule.specs.Stable.{Steady, steady, Bounded, bounded, ZeroKept}
-use Rattle.rule.specs.Endings.{Zeroed, ends-with-zeros, no-nan, kept-rule}
+use Rattle.rule.specs.Stable.{Steady, steady, Bounded, ZeroKept, refits-few}
+use Rattle.rule.specs.Shrinking.{bounded}
+use Rattle.rule.specs.Endings.{Zeroed, ends-with-zeros, no-nan, kept-lt, kept-rule}
+use Rattle.rule.specs.Rounded.{Rounded, in-format}
+use Rattle.rule.specs.Values.{solved-column}
+use Rattle.rule.specs.Made.{made-coeffs}
 
 -- above zero, nothing is kept at +0.0
 no-gap : (x y : ℕ) → T (ltb y x) → T (ltb x y || (eqb x y && true)) → ⊥
@@ -56,17 +62,47 @@ module _ (solver : Solver) (e : Entry) (t : ℕ → Float) (rows n : ℕ) (thres
   bounds h = bounded of (λ j c k. absurd (above-zero threshold h j k))
 
 module _ (solver : Solver) (e : Entry) (t : ℕ → Float) (rows n : ℕ) (setup : Setup) where
+  -- the problem, and the fit within the setup's limit
+  abbrev P : Problem
+  P = of solver e t rows n (setup .threshold) (setup .lambda)
+
+  abbrev f : Fit
+  f = fit-by solver e t rows n setup
+
   -- a refused solve ends with zeros, and so do no data and an empty support
-  pub zeros-left : Zeroed (fit-by solver e t rows n setup .stop) → fit-by solver e t rows n setup .coeffs ≡ zeros n
+  pub zeros-left : Zeroed (f .stop) → f .coeffs ≡ zeros n
   unfolding fit-by problem
-  zeros-left z = ends-with-zeros (of solver e t rows n (setup .threshold) (setup .lambda)) (setup .«max_iter») z
+  zeros-left z = ends-with-zeros P (setup .«max_iter») z
 
   -- only OutOfRounds can leave a NaN among the coefficients
-  pub numbers-left : fit-by solver e t rows n setup .stop ≢ OutOfRounds → (j : ℕ) → j < n → at (fit-by solver e t rows n setup .coeffs) j ≢ nan
+  pub numbers-left : f .stop ≢ OutOfRounds → (j : ℕ) → j < n → at (f .coeffs) j ≢ nan
   unfolding fit-by problem
-  numbers-left k j l = no-nan (of solver e t rows n (setup .threshold) (setup .lambda)) (nan-out (setup .threshold)) (setup .«max_iter») k j l
+  numbers-left k j l = no-nan P (nan-out (setup .threshold)) (setup .«max_iter») k j l
+
+  -- never more refits than rounds, at any threshold
+  pub refits-at-most : f .refits ≤ setup .«max_iter»
+  unfolding fit-by
+  refits-at-most = refits-few P (setup .«max_iter»)
+
+  -- the kept word is of the n terms
+  pub kept-below : f .kept < 2 ^ n
+  unfolding fit-by problem
+  kept-below = kept-lt P (setup .«max_iter»)
 
   -- bit j is one exactly if j is below n_cols and the final |c(j)| is at least the threshold
-  pub kept-word : (j : ℕ) → has (fit-by solver e t rows n setup .kept) j ≡ (ltb j n && le (setup .threshold) (absOf (at (fit-by solver e t rows n setup .coeffs) j)))
+  pub kept-word : (j : ℕ) → has (f .kept) j ≡ (ltb j n && le (setup .threshold) (absOf (at (f .coeffs) j)))
   unfolding fit-by problem keeps
-  kept-word j = kept-rule (of solver e t rows n (setup .threshold) (setup .lambda)) (setup .«max_iter») j
+  kept-word j = kept-rule P (setup .«max_iter») j
+
+  -- what holds of the target's numbers and of every result of an operation holds of each coefficient
+  pub coefficients-made : {Q : Float → Type 0} → Rounded Q → ((i : ℕ) → Q (t i)) → (j : ℕ) → Q (at (f .coeffs) j)
+  unfolding fit-by problem
+  coefficients-made made h =
+      made-coeffs P made
+      (λ vs q. solved-column made solver (setup .lambda) t rows n e vs h q .each)
+      (λ w vs q. solved-column made solver (setup .lambda) t rows (ones w) (columns n w e) vs h q .each)
+      (setup .«max_iter»)
+
+  -- so each is a binary64 where the target's numbers are, whatever theta, threshold and lambda hold
+  pub coefficients-fit : ((i : ℕ) → T (fits binary64 (t i))) → (j : ℕ) → T (fits binary64 (at (f .coeffs) j))
+  coefficients-fit = coefficients-made in-format

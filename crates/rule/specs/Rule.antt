@@ -13,6 +13,7 @@ use Rattle.rule.specs.declared.Stop.{Stop}
 use Rattle.rule.specs.declared.Stop.the-variants.{NoData, FirstRefused, Empty, RefitRefused, Settled, OutOfRounds}
 
 -- What a fit is over: its sizes, which terms a look keeps at which value, which the last pass clears, the solve of all columns and of a support's.
+-- Today no term is treated unlike another: the term number is there for a later order, which holds terms.
 pub record Problem : Type 0 where
   pub rows : ℕ
   pub cols : ℕ
@@ -49,7 +50,7 @@ support P cs = word (λ j. P .keeps j (at cs j)) (P .cols)
 unfoldable pub scatter : ℕ → ℕ → List Float → List Float
 scatter n w vs = tab n (λ j. cond (has w j) (at vs (place w j)) +zero)
 
--- the refit over w, counted even if refused
+-- the refit over w, counted even if refused (at which column is not told yet)
 unfoldable pub refit : Problem → List ℕ → ℕ → Solution → State
 refit P past w (refused c) = done RefitRefused (zeros (P .cols)) (w ∷ past)
 refit P past w (solved vs) = going (scatter (P .cols) w vs) (w ∷ past)

@@ -86,7 +86,7 @@ module _ {ℓ} {S : Type ℓ} where
   down-keeps P zero f s k p = p
   down-keeps P (suc n) f s k p = down-keeps P n f (f n s) k (k n s p)
 
--- The state of a loop that can be left early: still going, or stopped at a number.
+-- The state of a loop that can be left early: still going, or stopped at a number (a refused column; no public answer tells it yet, a later order does).
 pub data Way (S : Type 0) : Type 0 where
   going : S → Way S
   stopped : ℕ → S → Way S

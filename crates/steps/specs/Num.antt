@@ -51,7 +51,7 @@ abbrev pub 1e-30 : Float
 abbrev pub at : List Float → ℕ → Float
 at l i = getD l i nan
 
--- a matrix that is only read: a way to find row i, column j
+-- a matrix that is only read: a way to find row i, column j, so that no rule says how it is stored (today by rows; a later order stores theta by columns)
 abbrev pub Entry : Type 0
 Entry = ℕ → ℕ → Float
 

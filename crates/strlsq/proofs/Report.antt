@@ -24,6 +24,7 @@ use Rattle.rule.specs.declared.Fitted.the-variants as F
 use Rattle.rule.specs.Rule.{reported, pruned, support}
 use Rattle.rule.specs.Fits.{keeps, clears, problem, fit-by}
 use Rattle.rule.specs.Calls.{fit-need, fit-sizes, FitCall}
+use Rattle.rule.specs.Accepted as C
 use Rattle.rounds.specs.Ran.{problem-of, CameTo}
 use Rattle.strlsq.specs.Reports.{Reports}
 
@@ -94,5 +95,4 @@ module _ (solver : Solver) (rows n limit theta target cs ws : ℕ) where
               workspace-short h = simp (le-ltb 64 n cols, le-ltb 4096 rows few, le-ltb 1000 limit brief, eq-eqb theta (rows * n) matrix, eq-eqb target rows right, eq-eqb cs n out, lt-ltb ws _ h)
 
               pub accepted : fit-need solver rows n ≤ ws → Sizes ≡ A.Done
-              unfolding fit-sizes
-              accepted h = simp (le-ltb 64 n cols, le-ltb 4096 rows few, le-ltb 1000 limit brief, eq-eqb theta (rows * n) matrix, eq-eqb target rows right, eq-eqb cs n out, le-ltb ws _ h)
+              accepted h = C.accepted (record { few-cols = cols; few-rows = few; few-rounds = brief; theta-long = matrix; target-long = right; coeffs-long = out; space-long = h })
