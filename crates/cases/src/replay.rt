@@ -5,9 +5,9 @@ ghost use mathlib.Core.Bool.{true};
 ghost use lib.ListN.{length};
 ghost use Rattle.frames.specs.Exchange.{answer-of};
 ghost use Rattle.cases.specs.List.{Placed, Tallied};
-use super::say;
 use hex::inner::all_hex;
 use hex::inner::number;
+use libc::STDOUT_FILENO;
 
 // What stands at a place of the list: a name up to its end, an input and an answer up to theirs, or no entry.
 enum Entry {
@@ -67,6 +67,16 @@ fn alike(input: &[u8], wanted: &[u8]) -> bool
     check::same(&answer[..k], wanted)
 }
 
+// How many of so many exchanges were answered alike.
+fn say_tally(name: &[u8], alike: usize, all: usize) {
+    io::write_all(STDOUT_FILENO, name);
+    io::write_all(STDOUT_FILENO, b": ");
+    io::print_decimal(STDOUT_FILENO, alike as u64);
+    io::write_all(STDOUT_FILENO, b" of ");
+    io::print_decimal(STDOUT_FILENO, all as u64);
+    io::write_all(STDOUT_FILENO, b"\n");
+}
+
 // Runs the exchanges from a place on, up to what is none.
 fn group(list: &[u8], from: usize) -> Tally
     requires { ⌜ from ≤ length (now list) ⌝ }
@@ -112,7 +122,7 @@ fn groups(list: &[u8]) -> Tally {
         };
         let t = group(list, end);
         let name = at + 9;
-        say::tally(&list[name..end], t.alike, t.all);
+        say_tally(&list[name..end], t.alike, t.all);
         at = t.end;
         same += t.alike;
         all += t.all;
@@ -127,5 +137,5 @@ fn groups(list: &[u8]) -> Tally {
 // Runs the list, and prints the total.
 pub fn run(list: &[u8]) {
     let t = groups(list);
-    say::tally(b"exchanges answered alike", t.alike, t.all);
+    say_tally(b"exchanges answered alike", t.alike, t.all);
 }

@@ -1,9 +1,8 @@
-// The unmarked numbers of document 01, and the two traps that none of the replayed exchanges tells.
+// F8 and the sizes of the fits.
 ghost use Prim.Native.Nat.{_≤_};
 ghost use lib.ListN.{length};
 use super::say;
 use hex::inner::bits;
-use refusal::answer_number;
 use rule::Fitted;
 use rule::Setup;
 use rule::Solver;
@@ -43,20 +42,6 @@ fn f8(max_iter: usize, stop: u64, coefficient: u64) -> bool {
     };
     let f = strlsq::strlsq(&theta, 1, 1, &target, setup, &mut coeffs, &mut workspace);
     reports(f, stop, 0, 0) && bits(coeffs[0]) == coefficient
-}
-
-// The refusal of Cholesky of a 1 by 1 matrix, by its bits.
-fn cholesky_of(a: f64) -> u64 {
-    let mut matrix = [a];
-    let mut b = [1.0];
-    answer_number(solve::solve_spd_cholesky(&mut matrix, &mut b, 1))
-}
-
-// That of LU.
-fn lu_of(a: f64) -> u64 {
-    let mut matrix = [a];
-    let mut b = [1.0];
-    answer_number(solve::solve_lu(&mut matrix, &mut b, 1))
 }
 
 // A fit of one row, its theta, coefficients and workspace at the head of slices that may be longer.
@@ -134,48 +119,29 @@ fn refused(solver: Solver, n_cols: usize, max_iter: usize, room: usize) -> u64
 // The sizes: what both fits take, and one more. 64 columns of one row need 8,320 numbers, by QR 8,707.
 fn sizes() {
     let normal = passes(Solver::Normal, 8320);
-    say::case(
+    say(
         b"64 columns, max_iter 1,000",
         normal && passes(Solver::Qr, 8707),
     );
     let normal = refused(Solver::Normal, 65, 1000, 8580) == 1;
-    say::case(
+    say(
         b"65 columns",
         normal && refused(Solver::Qr, 65, 1000, 8973) == 1,
     );
     let normal = refused(Solver::Normal, 64, 1001, 8320) == 3;
-    say::case(
+    say(
         b"max_iter 1,001",
         normal && refused(Solver::Qr, 64, 1001, 8707) == 3,
     );
     let normal = refused(Solver::Normal, 64, 1000, 8319) == 7;
-    say::case(
+    say(
         b"a workspace one short",
         normal && refused(Solver::Qr, 64, 1000, 8706) == 7,
     );
 }
 
-// `qr` of two rows (1, -0.0): a sum that starts at +0.0 leaves -0.0 above the diagonal.
-fn qr_sums() -> bool {
-    let a = [1.0, -0.0, 1.0, -0.0];
-    let mut data = [7.0; 4];
-    let mut betas = [7.0; 2];
-    let mut workspace = [7.0; 2];
-    let answer = decomp::qr(&a, 2, 2, &mut data, &mut betas, &mut workspace);
-    answer_number(answer) == 0 && bits(data[1]) == 0
-}
-
 pub fn run() {
-    say::case(b"F8, max_iter 0", f8(0, 5, NAN));
-    say::case(b"F8, max_iter 1", f8(1, 2, 0));
-    say::case(b"C1", cholesky_of(1e-14) == 8);
-    say::case(
-        b"C1, the next f64 up",
-        cholesky_of(1.0000000000000002e-14) == 0,
-    );
-    say::case(b"C2", lu_of(1e-15) == 0);
-    say::case(b"C2, the next f64 down", lu_of(9.999999999999999e-16) == 9);
+    say(b"F8, max_iter 0", f8(0, 5, NAN));
+    say(b"F8, max_iter 1", f8(1, 2, 0));
     sizes();
-    say::case(b"Cholesky passes a NaN", cholesky_of(0.0 / 0.0) == 0);
-    say::case(b"sums of qr start at -0.0", qr_sums());
 }
