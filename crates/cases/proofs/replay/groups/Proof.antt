@@ -35,17 +35,17 @@ group-requires c κs = omega (arith, placed (c .before))
 add-name : tie.Need-add-name Inv-loop μ-loop
 add-name c = search needs
 
-sub-tally : tie.Need-sub-tally Inv-loop μ-loop
-sub-tally c = omega (arith, placed (c .before .before))
+sub-say-tally : tie.Need-sub-say-tally Inv-loop μ-loop
+sub-say-tally c = omega (arith, placed (c .before .before))
 
-part-tally-start : tie.Need-part-tally-start Inv-loop μ-loop
-part-tally-start c = omega (arith, placed (c .before .before))
+part-say-tally-start : tie.Need-part-say-tally-start Inv-loop μ-loop
+part-say-tally-start c = omega (arith, placed (c .before .before))
 
-part-tally-end : tie.Need-part-tally-end Inv-loop μ-loop
-part-tally-end c = omega (arith, placed (c .before .before))
+part-say-tally-end : tie.Need-part-say-tally-end Inv-loop μ-loop
+part-say-tally-end c = omega (arith, placed (c .before .before))
 
-tally-requires : tie.Need-tally-requires Inv-loop μ-loop
-tally-requires c κs = search needs
+say-tally-requires : tie.Need-say-tally-requires Inv-loop μ-loop
+say-tally-requires c κs = search needs
 
 add-same : tie.Need-add-same Inv-loop μ-loop
 add-same c = search needs
@@ -74,10 +74,10 @@ groups-spec =
     returns
     group-requires
     add-name
-    sub-tally
-    part-tally-start
-    part-tally-end
-    tally-requires
+    sub-say-tally
+    part-say-tally-start
+    part-say-tally-end
+    say-tally-requires
     add-same
     add-all
     loop-less
