@@ -16,7 +16,7 @@ const OF_AN_ANSWER: usize = 10;
 const OF_A_TRAP: usize = 10;
 const OF_A_FAULT: usize = 3;
 
-/// Document 01's traps, but for two that `cases` meets at the solvers: `QrShareFromZero` and `CholeskyNanRefused` changed no
+/// Document 01's traps, but for two that `numbers` meets at the solvers: `QrShareFromZero` and `CholeskyNanRefused` changed no
 /// answer to the short ones of 400,000 inputs of seed 1. That no fit can show them is not proved.
 const TRAPS: [Fault; 5] = [
     Fault::ScatterByPlace,
