@@ -15,7 +15,7 @@ use Rattle.rule.specs.declared.Report.{Report}
 use Rattle.rule.specs.declared.Fitted.{Fitted}
 use Rattle.rule.specs.declared.Fitted.the-variants as F
 use Rattle.hex.specs.Put.{Written}
-use Rattle.frames.specs.Answer.{report-line, coefficient-lines}
+use Rattle.writer.specs.Answer.{report-line, coefficient-lines}
 use Rattle.frames.specs.Exchange.{Fitting, fit-as, fit-lines}
 use Rattle.reader.specs.declared.inner.header.Header.{Header}
 

@@ -1,4 +1,3 @@
-pub mod AnswerLaws
 pub mod FitLaws
 pub mod Accepted
 pub mod ExchangeLaws

@@ -11,7 +11,7 @@ use Rattle.refusal.specs.declared.Answer.the-variants.{Done}
 use Rattle.refusal.specs.declared.Refusal.the-variants.{ManyColumns, ManyRows, ManyRounds, Malformed}
 use Rattle.reader.specs.Header.{head-of}
 use Rattle.reader.specs.Rows.{rows-formed}
-use Rattle.frames.specs.Answer.{refusal-line}
+use Rattle.writer.specs.Answer.{refusal-line}
 use Rattle.frames.specs.Exchange.{checked, Accepted, answer-lines, answer-to, answer-of}
 use Rattle.reader.specs.declared.inner.header.Header.{Header}
 use Rattle.reader.specs.declared.inner.header.Head.the-variants.{Good, Wrong}

@@ -20,7 +20,7 @@ use Rattle.hex.specs.All.{all}
 use Rattle.hex.specs.Hex.{value, all-hex, number}
 use Rattle.reader.specs.Header.{header-formed, header, head-of}
 use Rattle.reader.specs.Rows.{row-at, rows-formed}
-use Rattle.frames.specs.Answer.{refusal-line}
+use Rattle.writer.specs.Answer.{refusal-line}
 use Rattle.frames.specs.Exchange.{checked, answer-lines, answer-to, answer-of}
 use Rattle.reader.specs.declared.inner.header.Header.{Header}
 use Rattle.reader.specs.declared.inner.header.Head.{Head}

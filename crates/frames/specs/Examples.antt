@@ -10,7 +10,7 @@ use Rattle.hex.specs.All.{all}
 use Rattle.hex.specs.Hex as H
 use Rattle.reader.specs.Header as D
 use Rattle.reader.specs.Rows as R
-use Rattle.frames.specs.Answer as A
+use Rattle.writer.specs.Answer as A
 use Rattle.frames.specs.Exchange as X
 use Rattle.frames.specs.Exchange.{answer-of}
 

@@ -16,7 +16,7 @@ use Rattle.rule.specs.Rule.{Fit}
 use Rattle.rule.specs.Fits.{fit-by}
 use Rattle.reader.specs.Header.{head-of}
 use Rattle.reader.specs.Rows.{rows-formed, target, feature, Formed}
-use Rattle.frames.specs.Answer.{refusal-line, report-line, coefficient-lines}
+use Rattle.writer.specs.Answer.{refusal-line, report-line, coefficient-lines}
 use Rattle.reader.specs.declared.inner.header.Header.{Header}
 use Rattle.reader.specs.declared.inner.header.Head.{Head}
 use Rattle.reader.specs.declared.inner.header.Head.the-variants.{Good, Wrong}

@@ -1,8 +1,6 @@
 -- The exchange of the bench program. Assumes nothing.
-pub mod Answer
 pub mod Exchange
 pub mod Cases
-pub mod Lines
 pub mod Within
 pub mod ReadBack
 pub mod Unique

@@ -18,12 +18,12 @@ use Rattle.rule.specs.Rounded.{in-format, tab-column}
 use Rattle.rule.specs.Promises.{coefficients-fit}
 use Rattle.rule.specs.declared.Stop.{Stop}
 use Rattle.rule.specs.declared.Stop.the-variants.{NoData, FirstRefused, Empty, RefitRefused, Settled, OutOfRounds}
-use Rattle.frames.specs.Answer.{report-line, coefficient-lines}
+use Rattle.writer.specs.Answer.{report-line, coefficient-lines}
 use Rattle.reader.specs.Header.{head-of}
 use Rattle.reader.specs.Rows.{target}
 use Rattle.frames.specs.Exchange.{checked, fit-of, fit-lines, answer-lines, answer-of}
 use Rattle.frames.specs.Cases.{answer-good, accepted}
-use Rattle.frames.specs.Lines.{lines-append, length-lines, length-report}
+use Rattle.writer.specs.Lines.{lines-append, length-lines, length-report}
 use Rattle.frames.specs.Within.{refits-within, kept-within}
 use Rattle.reader.specs.declared.inner.header.Header.{Header}
 use Rattle.reader.specs.declared.inner.header.Head.the-variants.{Good}

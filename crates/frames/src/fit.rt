@@ -7,6 +7,8 @@ ghost use Rattle.frames.specs.Exchange.{Accepted, Fitting, fit-as, fit-o
 use reader::inner::header::Header;
 use reader::inner::rows;
 use rule::Fitted;
+use writer::inner::write_fit;
+use writer::inner::write_refusal;
 
 // Fits theta and target by the header's solver, and writes the lines.
 fn fit_into(
@@ -32,8 +34,8 @@ fn fit_into(
         coeffs,
         workspace,
     ) {
-        Fitted::Fit(report) => crate::answer::write_fit(report, coeffs, out),
-        Fitted::Refused(w) => crate::answer::write_refusal(w, out),
+        Fitted::Fit(report) => write_fit(report, coeffs, out),
+        Fitted::Refused(w) => write_refusal(w, out),
     }
 }
 

@@ -1,5 +1,4 @@
 // The bench program's exchange: the bytes of an input in, those of its answer out.
-mod answer;
 mod fit;
 
 ghost use mathlib.Core.Path.{_≡_};
@@ -10,6 +9,7 @@ use reader::inner::header::read_header;
 use reader::inner::rows;
 use refusal::Answer;
 use refusal::Refusal;
+use writer::inner::write_refusal;
 
 // The first refusal that applies after a good header.
 fn check(s: &[u8], h: Header) -> Answer
@@ -38,10 +38,10 @@ pub fn respond(input: &[u8], answer: &mut [u8; 295]) -> usize
     ensures { λ r. ⌜ Exchange (now (input .entry)) (now (answer .entry)) (now (answer .exit)) r ⌝ }
 {
     let Head::Good(h) = read_header(input) else {
-        return answer::write_refusal(Refusal::Malformed, answer);
+        return write_refusal(Refusal::Malformed, answer);
     };
     match check(input, h) {
         Answer::Done => fit::fit_rows(input, h, answer),
-        Answer::Refused(w) => answer::write_refusal(w, answer),
+        Answer::Refused(w) => write_refusal(w, answer),
     }
 }

@@ -4,7 +4,7 @@ ghost use Prim.Native.Nat.{_+_, _*_, _≤_};
 ghost use mathlib.Core.List.{_++_};
 ghost use lib.ListN.{length};
 ghost use Rattle.hex.specs.Put.{Written};
-ghost use Rattle.frames.specs.Answer.{refusal-line, report-line, coefficient-lines};
+ghost use Rattle.writer.specs.Answer.{refusal-line, report-line, coefficient-lines};
 use refusal::Refusal;
 use rule::Report;
 

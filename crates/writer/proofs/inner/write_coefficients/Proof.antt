@@ -2,9 +2,9 @@
 use Prim.Native.Nat.{_-_}
 use native.Mathlib.Omega.{arith}
 use borrow.Author.Needs.{needs}
-use Rattle.frames.proofs.AnswerLaws.{Lines, lines-none, lines-next, lines-end}
-use Rattle.frames.proofs.answer.write_coefficients.Statement.{statement}
-use Rattle.frames.proofs.answer.write_coefficients.Tie as tie
+use Rattle.writer.proofs.AnswerLaws.{Lines, lines-none, lines-next, lines-end}
+use Rattle.writer.proofs.inner.write_coefficients.Statement.{statement}
+use Rattle.writer.proofs.inner.write_coefficients.Tie as tie
 
 abbrev Inv-loop : tie.InvT-loop
 Inv-loop coeffs out₀ at next₀ j₀ j-end out next j = Lines coeffs at out₀ j out next

@@ -2,9 +2,9 @@
 use native.Mathlib.Omega.{arith}
 use borrow.Author.Needs.{needs}
 use Rattle.hex.specs.ReadBack.{after-digits}
-use Rattle.frames.proofs.AnswerLaws.{report-written}
-use Rattle.frames.proofs.answer.write_status.Statement.{statement}
-use Rattle.frames.proofs.answer.write_status.Tie as tie
+use Rattle.writer.proofs.AnswerLaws.{report-written}
+use Rattle.writer.proofs.inner.write_status.Statement.{statement}
+use Rattle.writer.proofs.inner.write_status.Tie as tie
 
 stop-code-requires : tie.Need-stop-code-requires
 stop-code-requires c κs = search needs

@@ -8,7 +8,7 @@ use lib.Ieee.{Float}
 use Rattle.hex.specs.Hex.{digits, bits, line, newline}
 use Rattle.hex.specs.ReadBack.{length-digits}
 use Rattle.rule.specs.declared.Stop.{Stop}
-use Rattle.frames.specs.Answer.{report-line, coefficient-lines}
+use Rattle.writer.specs.Answer.{report-line, coefficient-lines}
 
 pub lines-append : (xs ys : List Float) → coefficient-lines (xs ++ ys) ≡ coefficient-lines xs ++ coefficient-lines ys
 unfolding coefficient-lines

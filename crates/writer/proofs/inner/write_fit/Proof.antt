@@ -2,9 +2,9 @@
 use native.Mathlib.Omega.{arith}
 use borrow.Author.Needs.{needs}
 use Rattle.hex.specs.Put.{written-then}
-use Rattle.frames.specs.Lines.{length-report}
-use Rattle.frames.proofs.answer.write_fit.Statement.{statement}
-use Rattle.frames.proofs.answer.write_fit.Tie as tie
+use Rattle.writer.specs.Lines.{length-report}
+use Rattle.writer.proofs.inner.write_fit.Statement.{statement}
+use Rattle.writer.proofs.inner.write_fit.Tie as tie
 
 write-status-requires : tie.Need-write-status-requires
 write-status-requires c κs = omega arith

@@ -14,8 +14,8 @@ use Rattle.refusal.specs.Answers.{number}
 use Rattle.refusal.specs.declared.Refusal.{Refusal}
 use Rattle.rule.specs.Codes.{stop-code}
 use Rattle.rule.specs.declared.Stop.{Stop}
-use Rattle.frames.specs.Lines.{lines-append}
-use Rattle.frames.specs.Answer.{refusal-line, report-line, coefficient-lines}
+use Rattle.writer.specs.Lines.{lines-append}
+use Rattle.writer.specs.Answer.{refusal-line, report-line, coefficient-lines}
 
 -- the pieces of a refusal's line
 pub refusal-written : {n m r : ℕ} {was mid out : List ℕ} (w : Refusal) → n ≡ number w → Written 0 (digits 2 0xff) was mid m → Written m (line 2 n) mid out r → Written 0 (refusal-line w) was out r

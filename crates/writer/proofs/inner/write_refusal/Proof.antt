@@ -2,9 +2,9 @@
 use native.Mathlib.Omega.{arith}
 use borrow.Author.Needs.{needs}
 use Rattle.hex.specs.ReadBack.{after-digits}
-use Rattle.frames.proofs.AnswerLaws.{refusal-written}
-use Rattle.frames.proofs.answer.write_refusal.Statement.{statement}
-use Rattle.frames.proofs.answer.write_refusal.Tie as tie
+use Rattle.writer.proofs.AnswerLaws.{refusal-written}
+use Rattle.writer.proofs.inner.write_refusal.Statement.{statement}
+use Rattle.writer.proofs.inner.write_refusal.Tie as tie
 
 write-hex-requires : tie.Need-write-hex-requires
 write-hex-requires c κs = omega arith

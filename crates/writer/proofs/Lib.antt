@@ -1,0 +1,2 @@
+-- Laws of the lines of an answer. Assumes nothing.
+mod AnswerLaws

@@ -1,0 +1,3 @@
+-- The lines of an answer. Assumes nothing.
+pub mod Answer
+pub mod Lines

@@ -1,0 +1,2 @@
+// The lines of an answer, for the exchange: nothing here is a public call.
+pub mod inner;
