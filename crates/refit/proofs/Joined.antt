@@ -1,10 +1,10 @@
--- A matrix and a right-hand side in one slice. Assumes nothing.
+-- A matrix and a right-hand side in one slice, and how large they are. Assumes nothing.
 use mathlib.Core.Path.{_≡_, sym, ap, ap₂, _∙_}
 use mathlib.Core.List.{List}
-use Prim.Native.Nat.{ℕ, _+_, _-_, _*_, _≤_}
-use native.Mathlib.Nat.{sub-zero}
+use Prim.Native.Nat.{ℕ, _+_, _-_, _*_, _^_, _≤_, _<_}
+use native.Mathlib.Nat.{mul-le-mul, sub-zero}
 use native.Mathlib.Omega.{arith}
-use lib.Count.{ones}
+use lib.Count.{ones, ones-le}
 use lib.ListN.{length, take, drop, length-append, length-take, length-drop}
 use lib.Seq.{take-at, drop-at}
 use lib.Ieee.{Float}
@@ -16,6 +16,15 @@ use Rattle.float64.specs.Root.{rootOf}
 use Rattle.builders.specs.Products.{columns}
 use Rattle.least.specs.Least.{least}
 use Rattle.rule.specs.Fits.{augmented, padded, by-least}
+use Rattle.refit.specs.Parts.{Sized}
+
+-- the sizes of a refit: at most 64 supported columns, and the area of the augmented matrix
+module _ (rows n w k : ℕ) {theta target : List Float} (few : k ≡ ones w) (within : w < 2 ^ n) (sizes : Sized theta target rows n) where
+  pub narrow : k ≤ 64
+  narrow = omega (arith, ones-le n w within, sizes .cols)
+
+  pub area : (rows + k) * k ≤ 266240
+  area = let tall : rows + k ≤ 4160 = omega (arith, narrow, sizes .few) in omega (arith, mul-le-mul tall narrow)
 
 -- the length of a lent head, and of a lent part behind another
 pub length-head : {A : Type 0} (n : ℕ) (l : List A) → n ≤ length l → length (take (n - 0) l) ≡ n

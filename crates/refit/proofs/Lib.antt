@@ -1,6 +1,5 @@
 -- Laws that the proofs share.
 pub mod Head
 pub mod Ends
-pub mod Augment
 pub mod Joined
 pub mod Placing

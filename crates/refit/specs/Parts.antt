@@ -1,13 +1,11 @@
 -- What a solve over a support promises, in the words of the rule. Assumes nothing.
 use mathlib.Core.Path.{_≡_}
 use mathlib.Core.List.{List}
-use mathlib.Core.Bool.{cond}
-use Prim.Native.Nat.{ℕ, _+_, _*_, _≤_, _<_}
+use Prim.Native.Nat.{ℕ, _*_, _≤_}
 use lib.Count.{ones}
-use lib.Dec.{eqb}
 use lib.ListN.{length}
 use lib.Ieee.{Float}
-use Rattle.steps.specs.Num.{+zero, at, cell}
+use Rattle.steps.specs.Num.{at, cell}
 use Rattle.refusal.specs.Answers.{Solution, solved, refused, solution, told}
 use Rattle.refusal.specs.declared.Solved.{Solved}
 use Rattle.builders.specs.Products.{columns}
@@ -21,12 +19,6 @@ pub record Sized (theta target : List Float) (rows n : ℕ) : Type 0 where
   pub few : rows ≤ 4096
   pub matrix : length theta ≡ rows * n
   pub right : length target ≡ rows
-
--- the first i of the rows after `rows` have the root on their diagonal; the rows of the matrix before them are as they were
-pub record Ridged (rows k : ℕ) (root : Float) (i : ℕ) (s s' : List Float) : Type 0 where
-  pub long : length s' ≡ length s
-  pub new : (r c : ℕ) → r < i → c < k → cell k s' (rows + r) c ≡ cond (eqb r c) root +zero
-  pub old : (r c : ℕ) → r < rows → c < k → cell k s' r c ≡ cell k s r c
 
 -- the coefficients after a solve over w: each value at its term
 abbrev pub placed : ℕ → ℕ → Solution → Solution

@@ -7,8 +7,7 @@ use borrow.Author.Needs.{needs}
 use denote.Ref.{now}
 use Rattle.steps.specs.Space.{withPart}
 use Rattle.steps.specs.Table.{length-tab}
-use Rattle.refit.proofs.Augment.{narrow, area}
-use Rattle.refit.proofs.Joined.{length-head, length-behind, length-both, length-made, qr-is}
+use Rattle.refit.proofs.Joined.{narrow, area, length-head, length-behind, length-both, length-made, qr-is}
 use Rattle.refit.proofs.inner.by_least.qr_values.Statement.{statement}
 use Rattle.refit.proofs.inner.by_least.qr_values.Tie as tie
 

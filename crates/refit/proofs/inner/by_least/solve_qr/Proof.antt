@@ -8,7 +8,7 @@ use lib.ListN.{length}
 use lib.Ieee.{Float}
 use denote.Ref.{now}
 use Rattle.steps.specs.Space.{withPart}
-use Rattle.refit.proofs.Augment.{narrow, area}
+use Rattle.refit.proofs.Joined.{narrow, area}
 use Rattle.refit.proofs.Placing.{over-is, refused-is, solved-is, qr-fits, qr-head, same-space, few-in, copy-fits, same-coeffs, scattered}
 use Rattle.refit.proofs.inner.by_least.solve_qr.Statement.{statement}
 use Rattle.refit.proofs.inner.by_least.solve_qr.Tie as tie

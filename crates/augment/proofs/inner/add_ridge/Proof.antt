@@ -3,10 +3,10 @@ use mathlib.Core.Path.{_≡_}
 use Prim.Native.Nat.{_+_, _-_, _≤_, _<_}
 use native.Mathlib.Omega.{arith}
 use Rattle.steps.specs.Table.{row-fits}
-use Rattle.refit.specs.Parts.{Ridged}
-use Rattle.refit.proofs.Augment.{ridge-none, ridge-more}
-use Rattle.refit.proofs.inner.by_least.add_ridge.Statement.{statement}
-use Rattle.refit.proofs.inner.by_least.add_ridge.Tie as tie
+use Rattle.augment.specs.Ridged.{Ridged}
+use Rattle.augment.proofs.Augment.{ridge-none, ridge-more}
+use Rattle.augment.proofs.inner.add_ridge.Statement.{statement}
+use Rattle.augment.proofs.inner.add_ridge.Tie as tie
 
 abbrev Inv-loop : tie.InvT-loop
 Inv-loop n-rows n-active root s₀ c₀ s c = (c ≤ n-active) × Ridged n-rows n-active root c s₀ s

@@ -7,9 +7,9 @@ use borrow.Author.Needs.{needs}
 use denote.Ref.{now}
 use Rattle.builders.specs.Inner.{Within}
 use Rattle.builders.specs.InnerLaws.{listed-in}
-use Rattle.refit.proofs.Augment.{augmented-is}
-use Rattle.refit.proofs.inner.by_least.augment_with.Statement.{statement}
-use Rattle.refit.proofs.inner.by_least.augment_with.Tie as tie
+use Rattle.augment.proofs.Augment.{augmented-is}
+use Rattle.augment.proofs.inner.augment_with.Statement.{statement}
+use Rattle.augment.proofs.inner.augment_with.Tie as tie
 
 count-requires : tie.Need-count-requires
 count-requires c κs = search needs

@@ -3,10 +3,10 @@ use mathlib.Core.Path.{_≡_, refl, sym, _∙_, subst}
 use mathlib.Core.Logic.{_⊎_, inl, inr, ⊎-elim}
 use mathlib.Core.Bool.{cond}
 use mathlib.Core.List.{List}
-use Prim.Native.Nat.{ℕ, _+_, _-_, _*_, _^_, _≤_, _<_}
-use native.Mathlib.Nat.{eq-or-lt-of-le, mul-le-mul, sub-zero, zero-add}
+use Prim.Native.Nat.{ℕ, _+_, _-_, _*_, _≤_, _<_}
+use native.Mathlib.Nat.{eq-or-lt-of-le, sub-zero, zero-add}
 use native.Mathlib.Omega.{arith}
-use lib.Count.{ones, ones-le}
+use lib.Count.{ones}
 use lib.Dec.{eqb}
 use lib.ListN.{length, replicate, length-replicate, getD-replicate}
 use lib.Ieee.{Float, nan}
@@ -21,15 +21,7 @@ use Rattle.builders.specs.Inner.{Lists, listed}
 use Rattle.builders.specs.InnerLaws.{listed-is}
 use Rattle.builders.specs.Products.{columns}
 use Rattle.rule.specs.Fits.{augmented, padded}
-use Rattle.refit.specs.Parts.{Sized, Ridged}
-
--- the sizes of a refit: at most 64 supported columns, and the area of the augmented matrix
-module _ (rows n w k : ℕ) {theta target : List Float} (few : k ≡ ones w) (within : w < 2 ^ n) (sizes : Sized theta target rows n) where
-  pub narrow : k ≤ 64
-  narrow = omega (arith, ones-le n w within, sizes .cols)
-
-  pub area : (rows + k) * k ≤ 266240
-  area = let tall : rows + k ≤ 4160 = omega (arith, narrow, sizes .few) in omega (arith, mul-le-mul tall narrow)
+use Rattle.augment.specs.Ridged.{Ridged}
 
 pub ridge-none : (rows k : ℕ) (root : Float) (s : List Float) → Ridged rows k root 0 s s
 ridge-none rows k root s = record { long = refl; new = λ r c h g. absurd (omega arith); old = λ r c h g. refl }

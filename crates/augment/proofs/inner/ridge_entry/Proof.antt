@@ -1,8 +1,8 @@
 -- `ridge_entry` meets its contract: its test is the diagonal.
 use mathlib.Core.Path.{sym}
 use borrow.Author.Tests.{eq-eqb, ne-eqb}
-use Rattle.refit.proofs.inner.by_least.ridge_entry.Statement.{statement}
-use Rattle.refit.proofs.inner.by_least.ridge_entry.Tie as tie
+use Rattle.augment.proofs.inner.ridge_entry.Statement.{statement}
+use Rattle.augment.proofs.inner.ridge_entry.Tie as tie
 
 returns : tie.Need-returns
 returns c = sym (rw (eq-eqb _ _ (c .if1 .taken)))

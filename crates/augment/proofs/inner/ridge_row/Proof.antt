@@ -7,8 +7,8 @@ use borrow.Author.Needs.{needs}
 use denote.Ref.{now}
 use Rattle.steps.specs.Num.{+zero}
 use Rattle.steps.specs.Wrote.{Wrote, wrote-none, wrote-more, wrote-end}
-use Rattle.refit.proofs.inner.by_least.ridge_row.Statement.{statement}
-use Rattle.refit.proofs.inner.by_least.ridge_row.Tie as tie
+use Rattle.augment.proofs.inner.ridge_row.Statement.{statement}
+use Rattle.augment.proofs.inner.ridge_row.Tie as tie
 
 abbrev Inv-loop : tie.InvT-loop
 Inv-loop i own n-active root s₀ c₀ s c = (c ≤ n-active) × Wrote (λ q. i * n-active + q) 0 c (λ q. cond (eqb (own .0) q) root +zero) s₀ s

@@ -6,8 +6,8 @@ use Rattle.steps.specs.Num.{cell}
 use Rattle.steps.specs.Table.{row-fits}
 use Rattle.steps.specs.Rows.{Rows, rows-none, rows-wrote}
 use Rattle.builders.specs.Inner.{listed}
-use Rattle.refit.proofs.inner.by_least.gather.Statement.{statement}
-use Rattle.refit.proofs.inner.by_least.gather.Tie as tie
+use Rattle.augment.proofs.inner.gather.Statement.{statement}
+use Rattle.augment.proofs.inner.gather.Tie as tie
 
 abbrev Inv-loop : tie.InvT-loop
 Inv-loop theta n-rows n-cols terms n-active s₀ i₀ s i = (i ≤ n-rows) × Rows (n-rows + n-active) n-active (listed terms (cell n-cols theta)) s₀ i s

@@ -1,8 +1,9 @@
 -- `augment` meets its contract: its list of term numbers is its own.
+use native.Mathlib.Omega.{arith}
 use borrow.Author.Needs.{needs}
-use Rattle.refit.proofs.Joined.{length-head}
-use Rattle.refit.proofs.inner.by_least.augment.Statement.{statement}
-use Rattle.refit.proofs.inner.by_least.augment.Tie as tie
+use lib.ListN.{length-take}
+use Rattle.augment.proofs.inner.augment.Statement.{statement}
+use Rattle.augment.proofs.inner.augment.Tie as tie
 
 sub-augment-with : tie.Need-sub-augment-with
 sub-augment-with c = search needs
@@ -14,7 +15,9 @@ part-terms-end : tie.Need-part-terms-end
 part-terms-end c = search needs
 
 augment-with-requires : tie.Need-augment-with-requires
-augment-with-requires c κs = let start = c .before .before .before .before in (start .pre .0, length-head (start .args .n-cols) _ (start .pre .0), start .pre .1, start .pre .2, start .pre .3, start .pre .4)
+augment-with-requires c κs =
+    let start = c .before .before .before .before in
+    (start .pre .0, simp length-take (omega (arith, start .pre .0)), start .pre .1, start .pre .2, start .pre .3, start .pre .4)
 
 same-length : tie.Need-same-length
 same-length c = c .before .before .before .augment-with .kept .1 .1 .1 .1 .1 .0

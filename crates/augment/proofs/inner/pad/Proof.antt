@@ -2,9 +2,9 @@
 use borrow.Author.Needs.{needs}
 use denote.Ref.{now}
 use Rattle.steps.specs.Space.{withPart}
-use Rattle.refit.proofs.Augment.{padded-is}
-use Rattle.refit.proofs.inner.by_least.pad.Statement.{statement}
-use Rattle.refit.proofs.inner.by_least.pad.Tie as tie
+use Rattle.augment.proofs.Augment.{padded-is}
+use Rattle.augment.proofs.inner.pad.Statement.{statement}
+use Rattle.augment.proofs.inner.pad.Tie as tie
 
 add-m : tie.Need-add-m
 add-m c = search needs

@@ -5,8 +5,8 @@ use denote.Ref.{now}
 use Rattle.steps.specs.Num.{cell}
 use Rattle.steps.specs.Wrote.{Wrote, wrote-none, wrote-more, wrote-end}
 use Rattle.builders.specs.Inner.{listed}
-use Rattle.refit.proofs.inner.by_least.take_row.Statement.{statement}
-use Rattle.refit.proofs.inner.by_least.take_row.Tie as tie
+use Rattle.augment.proofs.inner.take_row.Statement.{statement}
+use Rattle.augment.proofs.inner.take_row.Tie as tie
 
 abbrev Inv-loop : tie.InvT-loop
 Inv-loop theta n-rows n-cols terms n-active i s₀ c₀ s c =

@@ -1,0 +1,15 @@
+-- The rows below theta's in QR's matrix, as they are written one by one. Assumes nothing.
+use mathlib.Core.Path.{_≡_}
+use mathlib.Core.List.{List}
+use mathlib.Core.Bool.{cond}
+use Prim.Native.Nat.{ℕ, _+_, _<_}
+use lib.Dec.{eqb}
+use lib.ListN.{length}
+use lib.Ieee.{Float}
+use Rattle.steps.specs.Num.{+zero, cell}
+
+-- the first i of the rows after `rows` have the root on their diagonal; the rows of the matrix before them are as they were
+pub record Ridged (rows k : ℕ) (root : Float) (i : ℕ) (s s' : List Float) : Type 0 where
+  pub long : length s' ≡ length s
+  pub new : (r c : ℕ) → r < i → c < k → cell k s' (rows + r) c ≡ cond (eqb r c) root +zero
+  pub old : (r c : ℕ) → r < rows → c < k → cell k s' r c ≡ cell k s r c
