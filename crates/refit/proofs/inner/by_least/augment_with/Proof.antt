@@ -5,8 +5,8 @@ use native.Mathlib.Omega.{arith}
 use lib.Count.{ones, ones-le}
 use borrow.Author.Needs.{needs}
 use denote.Ref.{now}
-use Rattle.builders.specs.Inner.{Within}
-use Rattle.builders.specs.InnerLaws.{listed-in}
+use Rattle.places.specs.Columns.{Within}
+use Rattle.places.specs.ColumnLaws.{listed-in}
 use Rattle.refit.proofs.Augment.{augmented-is}
 use Rattle.refit.proofs.inner.by_least.augment_with.Statement.{statement}
 use Rattle.refit.proofs.inner.by_least.augment_with.Tie as tie
