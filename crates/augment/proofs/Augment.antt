@@ -17,9 +17,8 @@ use Rattle.steps.specs.Table.{tab, is-tab, table, is-table}
 use Rattle.steps.specs.Space.{cleared, cleared-all, withPart, length-with, get-with, get-after}
 use Rattle.steps.specs.Wrote.{Wrote}
 use Rattle.steps.specs.Rows.{Rows, rows-apart}
-use Rattle.builders.specs.Inner.{Lists, listed}
-use Rattle.builders.specs.InnerLaws.{listed-is}
-use Rattle.builders.specs.Products.{columns}
+use Rattle.places.specs.Columns.{columns, Lists, listed}
+use Rattle.places.specs.ColumnLaws.{listed-is}
 use Rattle.rule.specs.Fits.{augmented, padded}
 use Rattle.augment.specs.Ridged.{Ridged}
 

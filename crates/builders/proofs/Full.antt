@@ -14,10 +14,11 @@ use Rattle.support.specs.SupportLaws.{full-is}
 use Rattle.support.specs.CountLaws.{ones-full}
 use Rattle.refusal.specs.declared.Refusal.{Refusal}
 use Rattle.refusal.specs.declared.Answer.the-variants.{Refused}
-use Rattle.builders.specs.Products.{gram, moment, damped, jtj-matrix, jtr-column, columns}
-use Rattle.builders.specs.ProductLaws.{gram-cong, moment-cong, columns-full}
+use Rattle.places.specs.Columns.{Within, columns}
+use Rattle.places.specs.ColumnLaws.{columns-full}
+use Rattle.sums.specs.Products.{gram, moment, damped, jtj-matrix, jtr-column}
+use Rattle.sums.specs.ProductLaws.{gram-cong, moment-cong}
 use Rattle.builders.specs.Calls.{jtj-sizes, jtr-sizes, JtjCall, JtrCall}
-use Rattle.builders.specs.Inner.{Within}
 
 module _ (n w : ℕ) (few : n ≤ 64) (all : w ≡ full n) where
   pub within-full : (jac : List Float) (rows : ℕ) → rows ≤ 4096 → length jac ≡ rows * n → Within jac rows n w

@@ -11,7 +11,7 @@ use Rattle.refusal.specs.Answers.{refuse-if, if-done}
 use Rattle.refusal.specs.declared.Answer.{Answer}
 use Rattle.refusal.specs.declared.Answer.the-variants.{Done}
 use Rattle.refusal.specs.declared.Refusal.the-variants.{ManyColumns, ManyRows, MatrixLength, TargetLength, OutputLength}
-use Rattle.builders.specs.Products.{gram, moment, ridge, jtj-matrix, jtr-column}
+use Rattle.sums.specs.Products.{gram, moment, ridge, jtj-matrix, jtr-column}
 
 -- the first refusal that applies to a matrix of this length, before the next ones
 unfoldable pub matrix-sizes : ℕ → ℕ → ℕ → Answer → Answer

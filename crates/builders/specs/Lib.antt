@@ -1,7 +1,3 @@
--- The sums of the normal equations. Assumes nothing.
-pub mod Products
-pub mod ProductLaws
+-- What `jtj` and `jtr` promise. Assumes nothing.
 pub mod Calls
 pub mod Unique
-pub mod Inner
-pub mod InnerLaws

@@ -1,10 +1,9 @@
-// The sums of the normal equations.
-pub mod inner;
-mod walk;
-
+// The sums of the normal equations: the public calls.
 ghost use Rattle.builders.specs.Calls.{JtjCall, JtrCall};
 use refusal::Answer;
 use refusal::Refusal;
+use sums::inner::jtj_of;
+use sums::inner::jtr_of;
 use support::Support;
 
 // The products of the columns p and q of a matrix, summed over its rows, at (p,q) and at (q,p); lambda is added to each diagonal number.
@@ -23,7 +22,7 @@ pub fn jtj(jac: &[f64], n_rows: usize, n_params: usize, lambda: f64, out: &mut [
     if out.len() != n_params * n_params {
         return Answer::Refused(Refusal::OutputLength);
     }
-    inner::jtj_of(jac, n_rows, n_params, Support::full(n_params), lambda, out);
+    jtj_of(jac, n_rows, n_params, Support::full(n_params), lambda, out);
     Answer::Done
 }
 
@@ -46,6 +45,6 @@ pub fn jtr(jac: &[f64], r: &[f64], n_rows: usize, n_params: usize, out: &mut [f6
     if out.len() != n_params {
         return Answer::Refused(Refusal::OutputLength);
     }
-    inner::jtr_of(jac, r, n_rows, n_params, Support::full(n_params), out);
+    jtr_of(jac, r, n_rows, n_params, Support::full(n_params), out);
     Answer::Done
 }

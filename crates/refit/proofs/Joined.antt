@@ -13,7 +13,7 @@ use Rattle.steps.specs.Table.{tab, table, length-table}
 use Rattle.steps.specs.Space.{part, withPart, length-with}
 use Rattle.steps.specs.Glue.{both-parts}
 use Rattle.float64.specs.Root.{rootOf}
-use Rattle.builders.specs.Products.{columns}
+use Rattle.places.specs.Columns.{columns}
 use Rattle.least.specs.Least.{least}
 use Rattle.rule.specs.Fits.{augmented, padded, by-least}
 use Rattle.refit.specs.Parts.{Sized}

@@ -13,7 +13,7 @@ use Rattle.steps.specs.Glue.{read-behind}
 use Rattle.refusal.specs.Answers.{Solution, solved, told}
 use Rattle.refusal.specs.declared.Solved.{Solved}
 use Rattle.refusal.specs.declared.Solved.the-variants.{Done, Refused}
-use Rattle.builders.specs.Products.{columns}
+use Rattle.places.specs.Columns.{columns}
 use Rattle.least.specs.Least.{values}
 use Rattle.rule.specs.Rule.{scatter}
 use Rattle.rule.specs.Fits.{by-least, solves}

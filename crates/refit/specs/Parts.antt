@@ -8,7 +8,7 @@ use lib.Ieee.{Float}
 use Rattle.steps.specs.Num.{at, cell}
 use Rattle.refusal.specs.Answers.{Solution, solved, refused, solution, told}
 use Rattle.refusal.specs.declared.Solved.{Solved}
-use Rattle.builders.specs.Products.{columns}
+use Rattle.places.specs.Columns.{columns}
 use Rattle.rule.specs.Rule.{scatter}
 use Rattle.rule.specs.Fits.{solves}
 use Rattle.rule.specs.declared.Solver.{Solver}

@@ -8,7 +8,8 @@ use Rattle.steps.specs.Num.{+zero, Entry}
 use Rattle.steps.specs.Table.{tab, table}
 use Rattle.float64.specs.Root.{rootOf, absOf}
 use Rattle.refusal.specs.Answers.{Solution, solution}
-use Rattle.builders.specs.Products.{gram, moment, ridge, jtj-matrix, jtr-column, columns}
+use Rattle.places.specs.Columns.{columns}
+use Rattle.sums.specs.Products.{gram, moment, ridge, jtj-matrix, jtr-column}
 use Rattle.normal.specs.Normal.{normal}
 use Rattle.least.specs.Least.{least}
 use Rattle.rule.specs.Rule.{Problem, Fit, fit}

@@ -10,7 +10,7 @@ use lib.Ieee.{Float, nan, inf, fin, binary64, fits, ofBits, lt, le, eq, up, down
 use Rattle.steps.specs.Num.{+zero, at, Entry}
 use Rattle.float64.specs.Root.{absOf}
 use Rattle.support.specs.Word.{has}
-use Rattle.builders.specs.Products.{columns}
+use Rattle.places.specs.Columns.{columns}
 use Rattle.rule.specs.declared.Setup.{Setup}
 use Rattle.rule.specs.declared.Solver.{Solver}
 use Rattle.rule.specs.declared.Stop.the-variants.{OutOfRounds}

@@ -15,8 +15,10 @@ use Rattle.float64.specs.Root.{rootOf}
 use Rattle.support.specs.Word.{full}
 use Rattle.support.specs.CountLaws.{ones-full}
 use Rattle.refusal.specs.Answers.{solved, solution}
-use Rattle.builders.specs.Products.{gram, moment, ridge, damped, jtj-matrix, jtr-column, columns}
-use Rattle.builders.specs.ProductLaws.{gram-cong, moment-cong, columns-full}
+use Rattle.places.specs.Columns.{columns}
+use Rattle.places.specs.ColumnLaws.{columns-full}
+use Rattle.sums.specs.Products.{gram, moment, ridge, damped, jtj-matrix, jtr-column}
+use Rattle.sums.specs.ProductLaws.{gram-cong, moment-cong}
 use Rattle.normal.specs.Normal.{normal}
 use Rattle.least.specs.Least.{least}
 use Rattle.rule.specs.declared.Solver.{Solver}

@@ -6,7 +6,8 @@ use lib.Ieee.{Float, nan}
 use lib.Count.{ones}
 use Rattle.steps.specs.Num.{lit, +zero, one, at, cell}
 use Rattle.support.specs.Word as W
-use Rattle.builders.specs.Products as B
+use Rattle.places.specs.Columns as C
+use Rattle.sums.specs.Products as P
 use Rattle.rule.specs.Rule as R
 use Rattle.rule.specs.Rule.{Fit}
 use Rattle.rule.specs.Fits as F
@@ -20,7 +21,7 @@ use Rattle.table.specs.Solvers.{opened, three}
 -- all that a fit computes with
 unfoldable pub fits : Unit {0}
 unfolding opened ones W.has W.count W.word W.terms W.place W.term
-    B.gram B.moment B.ridge B.damped B.jtj-matrix B.jtr-column B.columns
+    C.columns P.gram P.moment P.ridge P.damped P.jtj-matrix P.jtr-column
     R.support R.scatter R.refit R.look R.round R.first R.start R.rounds R.pruned R.reported R.finish R.fit
     F.keeps F.clears F.by-sums F.by-normal F.augmented F.padded F.by-least F.solves F.problem F.fit-by
 fits = tt

@@ -4,16 +4,17 @@ ghost use Prim.Native.Nat.{_*_, _^_, _<_};
 ghost use lib.Count.{ones};
 ghost use lib.ListN.{length};
 ghost use Rattle.steps.specs.Num.{at, cell};
-ghost use Rattle.builders.specs.Products.{columns, ridge};
+ghost use Rattle.places.specs.Columns.{columns};
+ghost use Rattle.sums.specs.Products.{ridge};
 ghost use Rattle.rule.specs.Calls.{fit-need};
 ghost use Rattle.rule.specs.Fits.{by-normal};
 ghost use Rattle.refit.specs.Parts.{Sized, gave, over-support, placed};
-use builders::inner::jtj_of;
-use builders::inner::jtr_of;
 use coeffs::inner::scatter;
 use normal::inner::normal_equations_packed;
 use refusal::Solved;
 use rule::Solver;
+use sums::inner::jtj_of;
+use sums::inner::jtr_of;
 use support::Support;
 
 // The values by reduced place, in b. The workspace is [matrix k * k | copy k * k].

@@ -5,8 +5,8 @@ use native.Mathlib.Omega.{arith}
 use lib.Count.{ones, ones-le}
 use borrow.Author.Needs.{needs}
 use denote.Ref.{now}
-use Rattle.builders.specs.Inner.{Within}
-use Rattle.builders.specs.InnerLaws.{listed-in}
+use Rattle.places.specs.Columns.{Within}
+use Rattle.places.specs.ColumnLaws.{listed-in}
 use Rattle.augment.proofs.Augment.{augmented-is}
 use Rattle.augment.proofs.inner.augment_with.Statement.{statement}
 use Rattle.augment.proofs.inner.augment_with.Tie as tie

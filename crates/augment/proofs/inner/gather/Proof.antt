@@ -5,7 +5,7 @@ use native.Mathlib.Omega.{arith}
 use Rattle.steps.specs.Num.{cell}
 use Rattle.steps.specs.Table.{row-fits}
 use Rattle.steps.specs.Rows.{Rows, rows-none, rows-wrote}
-use Rattle.builders.specs.Inner.{listed}
+use Rattle.places.specs.Columns.{listed}
 use Rattle.augment.proofs.inner.gather.Statement.{statement}
 use Rattle.augment.proofs.inner.gather.Tie as tie
 

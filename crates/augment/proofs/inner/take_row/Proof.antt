@@ -4,7 +4,7 @@ use native.Mathlib.Omega.{arith}
 use denote.Ref.{now}
 use Rattle.steps.specs.Num.{cell}
 use Rattle.steps.specs.Wrote.{Wrote, wrote-none, wrote-more, wrote-end}
-use Rattle.builders.specs.Inner.{listed}
+use Rattle.places.specs.Columns.{listed}
 use Rattle.augment.proofs.inner.take_row.Statement.{statement}
 use Rattle.augment.proofs.inner.take_row.Tie as tie
 

@@ -1,0 +1,4 @@
+-- The sums of the normal equations. Assumes nothing.
+pub mod Products
+pub mod ProductLaws
+pub mod Inner
