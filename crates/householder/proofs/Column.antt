@@ -10,7 +10,8 @@ use Rattle.steps.specs.Num.{plus, times, over, +zero, -zero, two, 1e-15, 1e-30,
 use Rattle.steps.specs.Sums.{sum-none}
 use Rattle.steps.specs.Wrote.{Wrote}
 use Rattle.float64.specs.Root.{rootOf}
-use Rattle.householder.specs.Qr.{led, along, sign, share, reflect, pushed, normed, column}
+use Rattle.transpose.specs.Led.{led, along}
+use Rattle.householder.specs.Qr.{sign, share, reflect, pushed, normed, column}
 use Rattle.householder.specs.Steps.{Sums}
 use Rattle.householder.proofs.Rows.{reflect-cong}
 

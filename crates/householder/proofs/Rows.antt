@@ -7,15 +7,16 @@ use native.Mathlib.Nat.{eq-or-lt-of-le}
 use native.Mathlib.Omega.{arith}
 use borrow.Author.Tests.{lt-ltb, le-ltb, le-leb, lt-leb, eq-eqb, ne-eqb}
 use lib.Arith.{digits-lt}
-use lib.ListN.{length, set, length-set, take}
-use lib.Seq.{getD-set-same, getD-set-other, getD-take}
+use lib.ListN.{length, set, length-set}
+use lib.Seq.{getD-set-same, getD-set-other}
 use lib.Ieee.{Float, nan}
 use Rattle.steps.specs.Num.{less, times, over, at, Entry, cell}
 use Rattle.steps.specs.Cond.{lt-or-ge}
 use Rattle.steps.specs.Table.{is-table, table-cong}
 use Rattle.steps.specs.Wrote.{Wrote}
 use Rattle.steps.specs.Rows.{Rows, rows-more, rows-apart}
-use Rattle.householder.specs.Qr.{led, store, lose, reflect}
+use Rattle.transpose.specs.Led.{led}
+use Rattle.householder.specs.Qr.{store, lose, reflect}
 
 -- the column with its leading entry replaced
 pub led-same : (x : Float) (e : Entry) (j : ℕ) → led x e j j ≡ x
@@ -25,11 +26,6 @@ led-same x e j = simp (eq-eqb j j refl)
 pub led-below : (x : Float) (e : Entry) (j i : ℕ) → j < i → led x e j i ≡ e i j
 unfolding led
 led-below x e j i h = simp (ne-eqb i j (λ q. omega arith))
-
--- read in a slice that begins with the matrix
-pub led-take : (x : Float) (n k j i : ℕ) (s : List Float) → i * n + j < k → led x (cell n s) j i ≡ led x (cell n (take k s)) j i
-unfolding led
-led-take x n k j i s h = sym (rw (getD-take k s (i * n + j) nan h))
 
 -- the entries after the step
 module _ (j : ℕ) (x : Float) (t : ℕ → Float) (e : Entry) where

@@ -1,3 +1,3 @@
--- Householder QR and Q-transpose. Assumes nothing.
+-- Householder QR. Assumes nothing.
 pub mod Qr
 pub mod Steps

@@ -1,23 +1,14 @@
--- Householder QR and Q-transpose, by document 01's sentences. Every sum here starts at -0.0. Assumes nothing.
+-- Householder QR, by document 01's sentences. Every sum here starts at -0.0. Assumes nothing.
 use Prim.Native.Nat.{ℕ}
 use mathlib.Core.Bool.{cond}
 use mathlib.Core.List.{List}
 use lib.Dec.{ltb, leb, eqb}
-use lib.ListN.{set}
 use lib.Ieee.{Float, lt, le}
-use Rattle.steps.specs.Num.{plus, less, times, over, +zero, -zero, one, -one, two, 1e-15, 1e-30, at, Entry, cell}
+use Rattle.steps.specs.Num.{plus, less, times, over, +zero, one, -one, two, 1e-15, 1e-30, Entry, cell}
 use Rattle.steps.specs.Loops.{loop}
-use Rattle.steps.specs.Sums.{sum}
 use Rattle.steps.specs.Table.{tab, table}
 use Rattle.float64.specs.Root.{rootOf}
-
--- column j from the diagonal down, its leading entry replaced by x
-unfoldable pub led : Float → Entry → ℕ → ℕ → Float
-led x e j i = cond (eqb i j) x (e i j)
-
--- the products of v and f from row j to the last of m, summed from -0.0 by rising row
-unfoldable pub along : ℕ → ℕ → (ℕ → Float) → (ℕ → Float) → Float
-along j m v f = sum -zero j m (λ i. times (v i) (f i))
+use Rattle.transpose.specs.Led.{led, along}
 
 -- +1 if the leading entry is at least 0.0 (so -0.0 gives +1), else -1 (NaN too)
 unfoldable pub sign : Float → Float
@@ -67,14 +58,3 @@ beta m n a j = column m n j (after m n a j) .1
 
 unfoldable pub betas : ℕ → ℕ → List Float → List Float
 betas m n a = tab n (beta m n a)
-
--- Q-transpose, column j: a leading 1 and the stored entries, skipped columns too; b loses (beta * w) * v(i)
-unfoldable pub turn : ℕ → ℕ → List Float → Float → ℕ → List Float → List Float
-turn m n a beta j b =
-    let v = led one (cell n a) j in
-    let w = along j m v (at b) in
-    loop j m (λ i l. set l i (less (at l i) (times (times beta w) (v i)))) b
-
--- the first k columns in turn
-unfoldable pub qt : ℕ → ℕ → List Float → List Float → ℕ → List Float → List Float
-qt m n a betas k b = loop 0 k (λ j. turn m n a (at betas j) j) b

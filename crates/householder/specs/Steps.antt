@@ -5,7 +5,7 @@ use Prim.Native.Nat.{ℕ, _+_, _*_, _≤_, _<_}
 use lib.ListN.{length}
 use lib.Ieee.{Float}
 use Rattle.steps.specs.Num.{at, cell}
-use Rattle.householder.specs.Qr.{led, along}
+use Rattle.transpose.specs.Led.{led, along}
 
 -- a matrix of m by n, and one of its columns
 pub record Shape (m n j : ℕ) (l : List Float) : Type 0 where
@@ -18,13 +18,6 @@ pub record Shape (m n j : ℕ) (l : List Float) : Type 0 where
 -- a matrix of m by n that is no wider than tall
 pub record Whole (m n : ℕ) (l : List Float) : Type 0 where
   pub size : length l ≡ m * n
-  pub rows : m ≤ 4160
-  pub cols : n ≤ 64
-  pub tall : n ≤ m
-
--- the same with a right-hand side behind it
-pub record Packed (m n : ℕ) (s : List Float) : Type 0 where
-  pub size : length s ≡ m * n + m
   pub rows : m ≤ 4160
   pub cols : n ≤ 64
   pub tall : n ≤ m

@@ -1,32 +1,22 @@
-// The columns of QR in place, and Q-transpose behind the matrix. Each function may require what its caller tested.
+// The columns of QR in place. Each function may require what its caller tested.
 ghost use mathlib.Core.Path.{_≡_};
-ghost use mathlib.Core.List.{_++_};
 ghost use Prim.Native.Nat.{_+_, _*_, _≤_, _<_};
-ghost use lib.ListN.{length, take, drop};
-ghost use Rattle.steps.specs.Num.{plus, less, times, one, at, cell};
+ghost use lib.ListN.{length};
+ghost use Rattle.steps.specs.Num.{plus, less, times, at, cell};
 ghost use Rattle.steps.specs.Wrote.{Wrote};
-ghost use Rattle.householder.specs.Qr.{led, along, sign, reflect, column, after, betas, turn, qt};
-ghost use Rattle.householder.specs.Steps.{Shape, Whole, Packed, Sums};
+ghost use Rattle.transpose.specs.Led.{led, along};
+ghost use Rattle.householder.specs.Qr.{sign, reflect, column, after, betas};
+ghost use Rattle.householder.specs.Steps.{Shape, Whole, Sums};
 use float64::sqrt;
 use slices::inner::cell;
 use slices::inner::put;
+use transpose::inner::led_at;
 
 // +1 if x is at least 0.0, else -1.
 fn sign_of(x: f64) -> f64
     ensures { λ r. ⌜ r ≡ sign x ⌝ }
 {
     if x >= 0.0 { 1.0 } else { -1.0 }
-}
-
-// Row i of column j, whose leading entry is x.
-fn led_at(a: &[f64], n: usize, i: usize, j: usize, x: f64) -> f64
-    requires { ⌜ i * n + j < length (now a) ⌝ }
-    ensures { λ r. ⌜ r ≡ led x (cell n (now (a .entry))) j i ⌝ }
-{
-    if i == j {
-        return x;
-    }
-    cell(a, n, i, j)
 }
 
 // The squares of column j from the diagonal down, whose leading entry is x, summed.
@@ -127,44 +117,5 @@ pub fn factor(a: &mut [f64], b: &mut [f64], m: usize, n: usize)
     for j in 0..n {
         let beta = qr_column(a, m, n, j);
         b[j] = beta;
-    }
-}
-
-// The stored column j, whose leading entry is 1, times the right-hand side behind the matrix.
-fn stored_dot(s: &[f64], m: usize, n: usize, j: usize) -> f64
-    requires { ⌜ (Packed m n (now s)) × (j < n) ⌝ }
-    ensures { λ r. ⌜ r ≡ along j m (led one (cell n (take (m * n) (now (s .entry)))) j) (at (drop (m * n) (now (s .entry)))) ⌝ }
-{
-    let mn = m * n;
-    let mut w = -0.0;
-    for i in j..m {
-        let v = led_at(s, n, i, j, 1.0);
-        w = w + v * s[mn + i];
-    }
-    w
-}
-
-// Q-transpose, column j.
-fn turn_column(s: &mut [f64], m: usize, n: usize, j: usize, beta: f64)
-    requires { ⌜ (Packed m n (now s)) × (j < n) ⌝ }
-    ensures { λ _. ⌜ now (s .exit) ≡ take (m * n) (now (s .entry)) ++ turn m n (take (m * n) (now (s .entry))) beta j (drop (m * n) (now (s .entry))) ⌝ }
-{
-    let mn = m * n;
-    let w = stored_dot(s, m, n, j);
-    let t = beta * w;
-    for i in j..m {
-        let v = led_at(s, n, i, j, 1.0);
-        s[mn + i] = s[mn + i] - t * v;
-    }
-}
-
-// Q-transpose of the right-hand side behind the matrix.
-pub fn apply_qt(s: &mut [f64], betas: &[f64], m: usize, n: usize)
-    requires { ⌜ (Packed m n (now s)) × (length (now betas) ≡ n) ⌝ }
-    ensures { λ _. ⌜ now (s .exit) ≡ take (m * n) (now (s .entry)) ++ qt m n (take (m * n) (now (s .entry))) (now (betas .entry)) n (drop (m * n) (now (s .entry))) ⌝ }
-{
-    for j in 0..n {
-        let beta = betas[j];
-        turn_column(s, m, n, j, beta);
     }
 }

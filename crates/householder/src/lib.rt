@@ -1,2 +1,2 @@
-// Householder QR and Q-transpose, for `decomp` and `least`: nothing here is a public call.
+// The columns of Householder QR, for `decomp` and `least`: nothing here is a public call.
 pub mod inner;

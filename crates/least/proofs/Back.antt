@@ -13,7 +13,8 @@ use Rattle.steps.specs.Loops.{Way, stopped, way-down, way-down-goes, way-down-s
 use Rattle.steps.specs.Space.{withPart}
 use Rattle.steps.specs.Glue.{seen, take-front, drop-back, both-parts}
 use Rattle.float64.specs.Root.{absOf}
-use Rattle.householder.specs.Qr.{after, betas, qt}
+use Rattle.transpose.specs.Transpose.{qt}
+use Rattle.householder.specs.Qr.{after, betas}
 use Rattle.least.specs.Least.{above, back-column, back, values, least}
 
 -- a turn of back substitution goes on, or stops

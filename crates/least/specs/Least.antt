@@ -8,7 +8,8 @@ use Rattle.steps.specs.Num.{less, times, over, 1e-15, at, cell}
 use Rattle.steps.specs.Loops.{loop, Way, going, stopped, way-down}
 use Rattle.float64.specs.Root.{absOf}
 use Rattle.refusal.specs.Answers.{Solution, solved, refused}
-use Rattle.householder.specs.Qr.{after, betas, qt}
+use Rattle.transpose.specs.Transpose.{qt}
+use Rattle.householder.specs.Qr.{after, betas}
 
 -- then the entries above row j are updated, those before k
 unfoldable pub above : ℕ → List Float → ℕ → ℕ → List Float → List Float

@@ -4,14 +4,14 @@ ghost use mathlib.Core.List.{_++_};
 ghost use Prim.Native.Nat.{_+_, _*_, _<_};
 ghost use lib.ListN.{length, take, drop};
 ghost use Rattle.refusal.specs.Answers.{told};
-ghost use Rattle.householder.specs.Steps.{Packed};
+ghost use Rattle.transpose.specs.Transpose.{Packed};
 ghost use Rattle.least.specs.Least.{above, back, values, least};
 use float64::abs;
-use householder::inner::apply_qt;
 use householder::inner::factor;
 use refusal::Solved;
 use slices::inner::cell;
 use slices::inner::copy;
+use transpose::inner::apply_qt;
 
 // The entries above row j lose their part of column j.
 fn lessen_above(s: &mut [f64], m: usize, n: usize, j: usize)

@@ -12,7 +12,8 @@ use Rattle.steps.specs.Loops.{Way, going, stopped, left, loop-keeps, down-keeps
 use Rattle.steps.specs.Space.{swapped}
 use Rattle.float64.specs.Root.{absOf}
 use Rattle.refusal.specs.Answers.{solved, solution}
-use Rattle.householder.specs.Qr.{turn, qt, after, betas}
+use Rattle.transpose.specs.Transpose.{turn, qt}
+use Rattle.householder.specs.Qr.{after, betas}
 use Rattle.cholesky.specs.Cholesky.{chol-forward, chol-back, chol-end, chol-factor, cholesky}
 use Rattle.lu.specs.Lu.{pivot-row, swap-rows, lu-swap, lu-eliminate, lu-pivoted, lu-column, lu-factor, lu-forward, lu-back, lu-end, lu}
 use Rattle.normal.specs.Normal.{right, or-lu, normal}

@@ -9,7 +9,7 @@ use denote.Ref.{now}
 use Rattle.steps.specs.Num.{times, cell}
 use Rattle.steps.specs.Sums.{sum-more}
 use Rattle.steps.specs.Table.{row-fits}
-use Rattle.householder.specs.Qr.{along}
+use Rattle.transpose.specs.Led.{along}
 use Rattle.householder.specs.Steps.{Sums}
 use Rattle.householder.proofs.inner.column_sums.Statement.{statement}
 use Rattle.householder.proofs.inner.column_sums.Tie as tie

@@ -5,7 +5,7 @@ use native.Mathlib.Omega.{arith}
 use lib.Arith.{digits-lt}
 use Rattle.steps.specs.Num.{cell}
 use Rattle.steps.specs.Sums.{sum-none, sum-more, sum-end}
-use Rattle.householder.specs.Qr.{led, along}
+use Rattle.transpose.specs.Led.{led, along}
 use Rattle.householder.proofs.inner.squares.Statement.{statement}
 use Rattle.householder.proofs.inner.squares.Tie as tie
 

@@ -10,9 +10,9 @@ use denote.Ref.{now}
 use Rattle.steps.specs.Num.{at}
 use Rattle.steps.specs.Loops.{loop-more}
 use Rattle.steps.specs.Glue.{seen, glued-none}
-use Rattle.householder.specs.Qr.{turn, qt}
-use Rattle.householder.proofs.inner.apply_qt.Statement.{statement}
-use Rattle.householder.proofs.inner.apply_qt.Tie as tie
+use Rattle.transpose.specs.Transpose.{turn, qt}
+use Rattle.transpose.proofs.inner.apply_qt.Statement.{statement}
+use Rattle.transpose.proofs.inner.apply_qt.Tie as tie
 
 abbrev Inv-loop : tie.InvT-loop
 Inv-loop s₀ betas m n j₀ s j = (j ≤ n) × (length s ≡ length s₀) × (s ≡ take (m * n) s₀ ++ qt m n (take (m * n) s₀) betas j (drop (m * n) s₀))

@@ -9,10 +9,10 @@ use lib.Ieee.{nan}
 use denote.Ref.{now}
 use Rattle.steps.specs.Num.{times, one, at, cell}
 use Rattle.steps.specs.Sums.{sum-none, sum-more, sum-end}
-use Rattle.householder.specs.Qr.{led, along}
-use Rattle.householder.proofs.Rows.{led-take}
-use Rattle.householder.proofs.inner.stored_dot.Statement.{statement}
-use Rattle.householder.proofs.inner.stored_dot.Tie as tie
+use Rattle.transpose.specs.Led.{led, along}
+use Rattle.transpose.proofs.Front.{led-take}
+use Rattle.transpose.proofs.inner.stored_dot.Statement.{statement}
+use Rattle.transpose.proofs.inner.stored_dot.Tie as tie
 
 abbrev Inv-loop : tie.InvT-loop
 Inv-loop s m n j mn w₀ i₀ w i = (j ≤ i) × (i ≤ m) × (w ≡ along j i (led one (cell n (take (m * n) s)) j) (at (drop (m * n) s)))

@@ -10,10 +10,11 @@ use denote.Ref.{now}
 use Rattle.steps.specs.Num.{less, times, one, at, cell}
 use Rattle.steps.specs.Loops.{loop}
 use Rattle.steps.specs.Glue.{at-back, take-front, glued-none, glued-more}
-use Rattle.householder.specs.Qr.{led, turn}
-use Rattle.householder.proofs.Rows.{led-take}
-use Rattle.householder.proofs.inner.turn_column.Statement.{statement}
-use Rattle.householder.proofs.inner.turn_column.Tie as tie
+use Rattle.transpose.specs.Led.{led}
+use Rattle.transpose.specs.Transpose.{turn}
+use Rattle.transpose.proofs.Front.{led-take}
+use Rattle.transpose.proofs.inner.turn_column.Statement.{statement}
+use Rattle.transpose.proofs.inner.turn_column.Tie as tie
 
 abbrev Inv-loop : tie.InvT-loop
 Inv-loop s₀ m n j beta mn w t i₀ s i =
@@ -27,6 +28,10 @@ abbrev μ-loop : tie.MeasureT-loop
 inside : (c : tie.In-loop Inv-loop μ-loop) → let args = c .before .before .before .before .before .args in c .before .loop .i * args .n + args .j < args .m * args .n
 inside c = digits-lt (c .loop-test .taken) (c .before .before .before .before .before .pre .1)
 
+-- and row i of the right-hand side behind it
+behind : (c : tie.In-loop Inv-loop μ-loop) → let args = c .before .before .before .before .before .args in args .m * args .n + c .before .loop .i < length (c .before .loop .s)
+behind c = omega (arith, c .before .before .before .before .before .pre .0)
+
 mul-mn : tie.Need-mul-mn Inv-loop μ-loop
 mul-mn c = omega (arith, c .before .pre .0)
 
@@ -39,28 +44,28 @@ loop-holds c =
     (omega arith, omega (arith, start .pre .0), refl, glued-none (now (start .args .s)) (start .args .m * start .args .n) _ _)
 
 led-at-requires : tie.Need-led-at-requires Inv-loop μ-loop
-led-at-requires c κs = let test = c .before in omega (arith, test .before .before .before .before .before .pre .0, inside test, test .before)
+led-at-requires c κs = omega (arith, inside (c .before), behind (c .before))
 
 add-s : tie.Need-add-s Inv-loop μ-loop
-add-s c = let test = c .before .before in omega (arith, test .before .before .before .before .before .pre .0, inside test, test .before)
+add-s c = omega (arith, behind (c .before .before))
 
 mul-s : tie.Need-mul-s Inv-loop μ-loop
-mul-s c = let test = c .before .before in omega (arith, test .before .before .before .before .before .pre .0, inside test, test .before)
+mul-s c = omega (arith, behind (c .before .before))
 
 slice-read-s : tie.Need-slice-read-s Inv-loop μ-loop
-slice-read-s c = let test = c .before .before .before in omega (arith, test .before .before .before .before .before .pre .0, inside test, test .before)
+slice-read-s c = omega (arith, behind (c .before .before .before))
 
 add-s-2 : tie.Need-add-s-2 Inv-loop μ-loop
-add-s-2 c = let test = c .before .before .before in omega (arith, test .before .before .before .before .before .pre .0, inside test, test .before)
+add-s-2 c = omega (arith, behind (c .before .before .before))
 
 mul-s-2 : tie.Need-mul-s-2 Inv-loop μ-loop
-mul-s-2 c = let test = c .before .before .before in omega (arith, test .before .before .before .before .before .pre .0, inside test, test .before)
+mul-s-2 c = omega (arith, behind (c .before .before .before))
 
 slice-write-s : tie.Need-slice-write-s Inv-loop μ-loop
-slice-write-s c = let test = c .before .before .before in omega (arith, test .before .before .before .before .before .pre .0, inside test, test .before)
+slice-write-s c = omega (arith, behind (c .before .before .before))
 
 add-i : tie.Need-add-i Inv-loop μ-loop
-add-i c = let test = c .before .before .before in omega (arith, test .before .before .before .before .before .pre .0, inside test, test .before)
+add-i c = omega (arith, behind (c .before .before .before))
 
 loop-less : tie.Need-loop-less Inv-loop μ-loop
 loop-less c = omega arith

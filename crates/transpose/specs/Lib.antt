@@ -1,0 +1,3 @@
+-- Q-transpose. Assumes nothing.
+pub mod Led
+pub mod Transpose
