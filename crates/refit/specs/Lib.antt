@@ -1,2 +1,3 @@
 -- What a solve over a support promises. Assumes nothing.
 pub mod Parts
+pub mod Placed

@@ -1,5 +1,5 @@
 -- A turn of the fits' loop, in the words of what the code's calls ensure. Assumes nothing.
-use mathlib.Core.Path.{_≡_, sym, ap, _∙_, subst}
+use mathlib.Core.Path.{_≡_, sym, ap, _∙_}
 use mathlib.Core.Logic.{_≢_}
 use mathlib.Core.Bool.{Bool, true, false}
 use mathlib.Core.List.{List}
@@ -9,20 +9,22 @@ use lib.Dec.{eqb}
 use lib.ListN.{length}
 use lib.Ieee.{Float}
 use Rattle.steps.specs.Num.{at}
-use Rattle.steps.specs.Space.{cleared, cleared-all}
+use Rattle.steps.specs.Space.{cleared}
 use Rattle.support.specs.Word.{word}
 use Rattle.support.specs.WordLaws.{word-lt}
-use Rattle.refusal.specs.Answers.{Solution, solved, refused}
+use Rattle.refusal.specs.Answers.{Solution}
 use Rattle.refusal.specs.declared.Solved.{Solved}
 use Rattle.refusal.specs.declared.Solved.the-variants.{Done, Refused}
 use Rattle.rule.specs.declared.Setup.{Setup}
 use Rattle.rule.specs.declared.Solver.{Solver}
 use Rattle.rule.specs.declared.Stop.the-variants.{Empty, RefitRefused, Settled}
-use Rattle.rule.specs.Rule.{Problem, zeros, support}
+use Rattle.rule.specs.Rule.{Problem, support}
 use Rattle.rule.specs.Fits.{keeps, problem}
 use Rattle.refit.specs.Parts.{placed, gave, over-support}
+use Rattle.refit.specs.Placed.{gave-done, gave-refused, placed-solved, placed-refused}
 use Rattle.rounds.specs.Ran.{problem-of, CameTo}
-use Rattle.rounds.proofs.Turns.{placed-solved, placed-refused, Going, out-empty, out-settled, out-refused, again}
+use Rattle.rounds.specs.Ended.{zeroed}
+use Rattle.rounds.proofs.Turns.{Going, out-empty, out-settled, out-refused, again}
 
 -- a test of two words
 pub tested-yes : {b : Bool} (w v u : ℕ) → b ≡ eqb w v → v ≡ u → b ≡ true → w ≡ u
@@ -31,20 +33,9 @@ tested-yes w v u e q t = eqb-true w v (sym e ∙ t) ∙ q
 pub tested-no : {b : Bool} (w v u : ℕ) → b ≡ eqb w v → v ≡ u → b ≡ false → w ≢ u
 tested-no w v u e q t z = eqb-false w v (sym e ∙ t) (z ∙ sym q)
 
--- what a solve gave, once its answer is known
-pub gave-done : (r : Solved) (x : List Float) (s : Solution) → r ≡ Done → gave r x ≡ s → solved x ≡ s
-gave-done r x s e q = subst (λ (z : Solved). gave z x ≡ s) e q
-
-pub gave-refused : (r : Solved) (c : ℕ) (x : List Float) (s : Solution) → r ≡ Refused c → gave r x ≡ s → refused c ≡ s
-gave-refused r c x s e q = subst (λ (z : Solved). gave z x ≡ s) e q
-
 -- a collected support has no term beyond the coefficients
 pub support-fits : (f : ℕ → Bool) (w n : ℕ) (cs : List Float) → w ≡ word f (length cs) → length cs ≡ n → w < 2 ^ n
 support-fits f w n cs e l = rw (e, l) (word-lt f n)
-
--- all coefficients cleared
-pub zeroed : (n : ℕ) (cs : List Float) {x : List Float} → length cs ≡ n → x ≡ cleared n cs → x ≡ zeros n
-zeroed n cs l e = e ∙ cleared-all n cs l
 
 module _ (solver : Solver) (setup : Setup) (theta target : List Float) (rows n : ℕ) where
   abbrev pub P : Problem

@@ -5,31 +5,16 @@ use mathlib.Core.List.{List, _∷_}
 use Prim.Native.Nat.{ℕ, suc, _+_, _<_, _≤_}
 use native.Mathlib.Nat.{le-antisymm}
 use native.Mathlib.Numerals.{add-one}
-use native.Mathlib.Omega.{arith}
 use borrow.Author.Tests.{eq-eqb, ne-eqb}
 use lib.ListN.{length}
 use lib.Ieee.{Float}
-use Rattle.refusal.specs.Answers.{Solution, solved, refused}
-use Rattle.rule.specs.declared.Stop.{Stop}
+use Rattle.refusal.specs.Answers.{refused}
 use Rattle.rule.specs.declared.Stop.the-variants.{Empty, RefitRefused, Settled, OutOfRounds}
-use Rattle.rule.specs.Rule.{Problem, going, done, latest, zeros, support, scatter, refit, look, round, rounds, finish, fit}
+use Rattle.rule.specs.Rule.{Problem, going, latest, zeros, support, refit, look, round, rounds, finish, fit}
 use Rattle.rule.specs.Stable.{stays}
-use Rattle.refit.specs.Parts.{placed}
+use Rattle.refit.specs.Placed.{Placed}
 use Rattle.rounds.specs.Ran.{CameTo}
-
--- a solve that gave coefficients gave values, each put at its term
-pub record Placed (n w : ℕ) (s : Solution) (cs : List Float) : Type 0 where
-  pub values : List Float
-  pub solves : s ≡ solved values
-  pub puts : cs ≡ scatter n w values
-
-pub placed-solved : (n w : ℕ) (s : Solution) (cs : List Float) → solved cs ≡ placed n w s → Placed n w s cs
-placed-solved n w (solved vs) cs e = record { values = vs; solves = refl; puts = cc }
-placed-solved n w (refused c) cs e = let z : _≡_ {A = ℕ} 0 1 = cc in absurd (omega arith)
-
-pub placed-refused : (n w c : ℕ) (s : Solution) → refused c ≡ placed n w s → s ≡ refused c
-placed-refused n w c (solved vs) e = let z : _≡_ {A = ℕ} 0 1 = cc in absurd (omega arith)
-placed-refused n w c (refused d) e = sym e
+use Rattle.rounds.specs.Ended.{ended}
 
 -- after r rounds the rule goes on, with these coefficients, this last support and this many refits
 pub record Going (P : Problem) (r : ℕ) (cs : List Float) (last k : ℕ) : Type 0 where
@@ -39,11 +24,6 @@ pub record Going (P : Problem) (r : ℕ) (cs : List Float) (last k : ℕ) : Type
   pub count-is : k ≡ length refitted
 
 module _ (P : Problem) where
-  -- a state that is done is what the fit reports
-  pub ended : (m : ℕ) {t : Stop} {k : ℕ} {cs : List Float} (ws : List ℕ) → rounds P m ≡ done t cs ws → k ≡ length ws → CameTo P m t k cs
-  unfolding fit finish
-  ended m ws e i = record { refitted = ws; ends = ap (finish P) e; counts = i }
-
   -- rounds used up
   pub out-of-rounds : {r k last m : ℕ} {cs : List Float} → Going P r cs last k → r ≤ m → m ≤ r → CameTo P m OutOfRounds k cs
   unfolding fit finish
@@ -58,11 +38,11 @@ module _ (P : Problem) where
 
     pub out-empty : {x : List Float} → w ≡ 0 → x ≡ zeros (P .cols) → CameTo P m Empty k x
     unfolding look
-    out-empty z e = ended m (g .refitted) (stays P (suc r) m (turn ∙ rw (eq-eqb w 0 z, e)) l) (g .count-is)
+    out-empty z e = ended P m (g .refitted) (stays P (suc r) m (turn ∙ rw (eq-eqb w 0 z, e)) l) (g .count-is)
 
     pub out-settled : w ≢ 0 → w ≡ last → CameTo P m Settled k cs
     unfolding look
-    out-settled z e = ended m (g .refitted) (stays P (suc r) m (turn ∙ rw (ne-eqb w 0 z, eq-eqb w (latest (g .refitted)) (e ∙ g .last-is))) l) (g .count-is)
+    out-settled z e = ended P m (g .refitted) (stays P (suc r) m (turn ∙ rw (ne-eqb w 0 z, eq-eqb w (latest (g .refitted)) (e ∙ g .last-is))) l) (g .count-is)
 
     solving : w ≢ 0 → w ≢ last → rounds P (suc r) ≡ refit P (g .refitted) w (P .solve w)
     unfolding look
@@ -70,7 +50,7 @@ module _ (P : Problem) where
 
     pub out-refused : {x : List Float} → w ≢ 0 → w ≢ last → (c : ℕ) → P .solve w ≡ refused c → x ≡ zeros (P .cols) → CameTo P m RefitRefused (k + 1) x
     unfolding refit
-    out-refused z e c q i = ended m (w ∷ g .refitted) (stays P (suc r) m (solving z e ∙ rw (q, i)) l) (add-one k ∙ ap suc (g .count-is))
+    out-refused z e c q i = ended P m (w ∷ g .refitted) (stays P (suc r) m (solving z e ∙ rw (q, i)) l) (add-one k ∙ ap suc (g .count-is))
 
     pub again : {x : List Float} → w ≢ 0 → w ≢ last → Placed (P .cols) w (P .solve w) x → Going P (r + 1) x w (k + 1)
     unfolding refit

@@ -1,2 +1,3 @@
 -- What the rounds of a fit promise. Assumes nothing.
 pub mod Ran
+pub mod Ended

@@ -1,15 +1,14 @@
 // The rounds of a fit: one loop for every solver.
 ghost use mathlib.Core.Path.{_≡_};
 ghost use mathlib.Core.List.{[]};
-ghost use Prim.Native.Nat.{_^_, _≤_, _<_};
+ghost use Prim.Native.Nat.{_≤_};
 ghost use lib.ListN.{length};
 ghost use Rattle.rule.specs.Rule.{going, start};
 ghost use Rattle.rule.specs.Calls.{fit-need};
-ghost use Rattle.refit.specs.Parts.{Sized, gave, over-support, placed};
+ghost use Rattle.refit.specs.Parts.{Sized};
 ghost use Rattle.rounds.specs.Ran.{problem-of, CameTo};
 use coeffs::inner::support_of;
-use refit::inner::by_least::solve_qr;
-use refit::inner::by_normal::solve_normal;
+use refit::inner::solve_terms;
 use refusal::Solved;
 use rule::Setup;
 use rule::Solver;
@@ -23,30 +22,8 @@ pub struct Ran {
     pub refits: usize,
 }
 
-// The solve over a support's columns, its values put at their terms.
-fn solve_terms(
-    solver: Solver,
-    theta: &[f64],
-    n_rows: usize,
-    n_cols: usize,
-    target: &[f64],
-    setup: Setup,
-    support: Support,
-    coeffs: &mut [f64],
-    ws: &mut [f64],
-) -> Solved
-    requires { ⌜ (Sized (now theta) (now target) «n_rows» «n_cols») × (length (now coeffs) ≡ «n_cols») × (support .0 < 2 ^ «n_cols») × (length (now ws) ≡ fit-need solver «n_rows» «n_cols») ⌝ }
-    ensures { λ r. ⌜ gave r (now (coeffs .exit)) ≡ placed «n_cols» (support .0) (over-support solver (setup .lambda) (now (theta .entry)) (now (target .entry)) «n_rows» «n_cols» (support .0)) ⌝ }
-{
-    let lambda = setup.lambda;
-    match solver {
-        Solver::Normal => solve_normal(theta, n_rows, n_cols, target, lambda, support, coeffs, ws),
-        Solver::Qr => solve_qr(theta, n_rows, n_cols, target, lambda, support, coeffs, ws),
-    }
-}
-
 // The rounds after a first solve that was not refused.
-fn rounds(
+pub fn rounds(
     solver: Solver,
     theta: &[f64],
     n_rows: usize,
@@ -100,51 +77,4 @@ fn rounds(
         stop: Stop::OutOfRounds,
         refits,
     }
-}
-
-// A fit, all but its last pass.
-pub fn run(
-    solver: Solver,
-    theta: &[f64],
-    n_rows: usize,
-    n_cols: usize,
-    target: &[f64],
-    setup: Setup,
-    coeffs: &mut [f64],
-    ws: &mut [f64],
-) -> Ran
-    requires { ⌜ (Sized (now theta) (now target) «n_rows» «n_cols») × (length (now coeffs) ≡ «n_cols») × (length (now ws) ≡ fit-need solver «n_rows» «n_cols») × (setup .«max_iter» ≤ 1000) ⌝ }
-    ensures { λ r. ⌜ CameTo (problem-of solver setup (now (theta .entry)) (now (target .entry)) «n_rows» «n_cols») (setup .«max_iter») (r .stop) (r .refits) (now (coeffs .exit)) ⌝ }
-{
-    if n_rows == 0 {
-        clear(coeffs, n_cols);
-        return Ran {
-            stop: Stop::NoData,
-            refits: 0,
-        };
-    }
-    if n_cols == 0 {
-        return Ran {
-            stop: Stop::NoData,
-            refits: 0,
-        };
-    }
-    let Solved::Done = solve_terms(
-        solver,
-        theta,
-        n_rows,
-        n_cols,
-        target,
-        setup,
-        Support::full(n_cols),
-        coeffs,
-        ws,
-    ) else {
-        clear(coeffs, n_cols);
-        return Ran {
-            stop: Stop::FirstRefused,
-            refits: 0,
-        };
-    };
-    rounds(solver, theta, n_rows, n_cols, target, setup, coeffs, ws)
 }

@@ -3,8 +3,8 @@ use mathlib.Core.Path.{ap, _∙_}
 use borrow.Author.Needs.{needs}
 use Rattle.rule.specs.Calls.{fit-need}
 use Rattle.rule.specs.declared.Solver.{Solver}
-use Rattle.rounds.proofs.inner.solve_terms.Statement.{statement}
-use Rattle.rounds.proofs.inner.solve_terms.Tie as tie
+use Rattle.refit.proofs.inner.solve_terms.Statement.{statement}
+use Rattle.refit.proofs.inner.solve_terms.Tie as tie
 
 enum-told : tie.Need-enum-told
 enum-told c = search needs

@@ -4,10 +4,10 @@ use native.Mathlib.Omega.{arith}
 use borrow.Author.Needs.{needs}
 use denote.Ref.{now}
 use Rattle.support.specs.SupportLaws.{full-lt}
-use Rattle.rounds.proofs.Rounds.{zeroed}
-use Rattle.rounds.proofs.First.{none-left, no-rows, no-cols, first-refused, first-goes}
-use Rattle.rounds.proofs.inner.run.Statement.{statement}
-use Rattle.rounds.proofs.inner.run.Tie as tie
+use Rattle.rounds.specs.Ended.{zeroed}
+use Rattle.first.proofs.First.{none-left, no-rows, no-cols, first-refused, first-goes}
+use Rattle.first.proofs.inner.run.Statement.{statement}
+use Rattle.first.proofs.inner.run.Tie as tie
 
 clear-requires : tie.Need-clear-requires
 clear-requires c κs = omega (arith, c .before .before .before .before .before .before .pre .1)

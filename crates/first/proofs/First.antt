@@ -26,9 +26,9 @@ use Rattle.rule.specs.Fits.{problem, solves}
 use Rattle.rule.specs.Stable.{stays}
 use Rattle.rule.specs.Values.{one-a-column, solves-full}
 use Rattle.refit.specs.Parts.{placed, gave, over-support}
+use Rattle.refit.specs.Placed.{gave-done, gave-refused, placed-solved, placed-refused}
 use Rattle.rounds.specs.Ran.{problem-of, CameTo}
-use Rattle.rounds.proofs.Turns.{placed-solved, placed-refused, ended}
-use Rattle.rounds.proofs.Rounds.{gave-done, gave-refused, zeroed}
+use Rattle.rounds.specs.Ended.{zeroed, ended}
 
 -- over the full support each value is at its own place
 scatter-full : (n : ℕ) (vs : List Float) → n ≤ 64 → length vs ≡ n → scatter n (full n) vs ≡ vs

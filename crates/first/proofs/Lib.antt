@@ -1,0 +1,2 @@
+-- Laws that the proof shares. Assumes nothing.
+pub mod First

@@ -1,0 +1,19 @@
+-- How a fit comes to an end. Assumes nothing.
+use mathlib.Core.Path.{_≡_, ap, _∙_}
+use mathlib.Core.List.{List}
+use Prim.Native.Nat.{ℕ}
+use lib.ListN.{length}
+use lib.Ieee.{Float}
+use Rattle.steps.specs.Space.{cleared, cleared-all}
+use Rattle.rule.specs.declared.Stop.{Stop}
+use Rattle.rule.specs.Rule.{Problem, done, zeros, rounds, finish, fit}
+use Rattle.rounds.specs.Ran.{CameTo}
+
+-- all coefficients cleared
+pub zeroed : (n : ℕ) (cs : List Float) {x : List Float} → length cs ≡ n → x ≡ cleared n cs → x ≡ zeros n
+zeroed n cs l e = e ∙ cleared-all n cs l
+
+-- a state that is done is what the fit reports
+pub ended : (P : Problem) (m : ℕ) {t : Stop} {k : ℕ} {cs : List Float} (ws : List ℕ) → rounds P m ≡ done t cs ws → k ≡ length ws → CameTo P m t k cs
+unfolding fit finish
+ended P m ws e i = record { refitted = ws; ends = ap (finish P) e; counts = i }
