@@ -3,12 +3,17 @@ use mathlib.Core.Path.{_≡_, refl}
 use mathlib.Core.Bool.{Bool, true, false}
 use Prim.Native.Nat.{ℕ}
 use native.Mathlib.Omega.{arith}
-use Rattle.refusal.specs.Answers.{refuse-if}
+use Rattle.refusal.specs.Answers.{refuse-if, and-then}
 use Rattle.refusal.specs.declared.Answer.{Answer}
-use Rattle.refusal.specs.declared.Answer.the-variants.{Done}
+use Rattle.refusal.specs.declared.Answer.the-variants.{Done, Refused}
 use Rattle.refusal.specs.declared.Refusal.{Refusal}
 
 -- where nothing is refused, the first test does not hold, and the rest refuses nothing
 pub passed : (t : Bool) (w : Refusal) (next : Answer) → refuse-if t w next ≡ Done → (t ≡ false) × (next ≡ Done)
 passed true w next e = let z : _≡_ {A = ℕ} 0 1 = cc in absurd (omega arith)
 passed false w next e = (refl, e)
+
+-- and so of two ladders, one after the other
+pub both-passed : (a next : Answer) → and-then a next ≡ Done → (a ≡ Done) × (next ≡ Done)
+both-passed Done next e = (refl, e)
+both-passed (Refused w) next e = let z : _≡_ {A = ℕ} 0 1 = cc in absurd (omega arith)

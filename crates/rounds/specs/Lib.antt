@@ -1,3 +1,4 @@
 -- What the rounds of a fit promise. Assumes nothing.
+pub mod Turned
 pub mod Ran
 pub mod Ended

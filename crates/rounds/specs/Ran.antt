@@ -4,16 +4,8 @@ use mathlib.Core.List.{List}
 use Prim.Native.Nat.{ℕ}
 use lib.ListN.{length}
 use lib.Ieee.{Float}
-use Rattle.steps.specs.Num.{at, cell}
 use Rattle.rule.specs.Rule.{Problem, fit, reported}
-use Rattle.rule.specs.Fits.{solves, problem}
-use Rattle.rule.specs.declared.Setup.{Setup}
-use Rattle.rule.specs.declared.Solver.{Solver}
 use Rattle.rule.specs.declared.Stop.{Stop}
-
--- the problem that a fit is the rule of
-abbrev pub problem-of : Solver → Setup → List Float → List Float → ℕ → ℕ → Problem
-problem-of solver setup theta target rows n = problem rows n (setup .threshold) (solves solver (setup .lambda) (at target) rows) (cell n theta)
 
 -- a fit of at most limit rounds came to this stop, this many refits and these coefficients, all but the last pass
 pub record CameTo (P : Problem) (limit : ℕ) (stop : Stop) (refits : ℕ) (cs : List Float) : Type 0 where

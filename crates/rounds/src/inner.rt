@@ -1,20 +1,26 @@
 // The rounds of a fit: one loop for every solver.
 ghost use mathlib.Core.Path.{_≡_};
 ghost use mathlib.Core.List.{[]};
-ghost use Prim.Native.Nat.{_≤_};
-ghost use lib.ListN.{length};
 ghost use Rattle.rule.specs.Rule.{going, start};
-ghost use Rattle.rule.specs.Calls.{fit-need};
-ghost use Rattle.refit.specs.Parts.{Sized};
-ghost use Rattle.rounds.specs.Ran.{problem-of, CameTo};
+ghost use Rattle.rule.specs.Fits.{problem-of};
+ghost use Rattle.rule.specs.Sizes.{Ready};
+ghost use Rattle.rounds.specs.Turned.{Turned};
+ghost use Rattle.rounds.specs.Ran.{CameTo};
 use coeffs::inner::support_of;
 use refit::inner::solve_terms;
 use refusal::Solved;
-use rule::Setup;
-use rule::Solver;
 use rule::Stop;
+use rule::Task;
 use slices::inner::clear;
 use support::Support;
+
+// What a round came to: a refit over this support, or the fit's end.
+pub enum Turn {
+    Again(Support),
+    Empty,
+    Settled,
+    Refused,
+}
 
 // How the rounds of a fit ended.
 pub struct Ran {
@@ -22,59 +28,74 @@ pub struct Ran {
     pub refits: usize,
 }
 
-// The rounds after a first solve that was not refused.
-pub fn rounds(
-    solver: Solver,
+// One round after the last refitted support: a look at the coefficients, and a refit unless they end the fit.
+pub fn round(
+    task: Task,
     theta: &[f64],
-    n_rows: usize,
-    n_cols: usize,
     target: &[f64],
-    setup: Setup,
+    last: Support,
+    coeffs: &mut [f64],
+    ws: &mut [f64],
+) -> Turn
+    requires { ⌜ Ready task (now theta) (now target) (now coeffs) (now ws) ⌝ }
+    ensures { λ r. ⌜ Turned (problem-of task (now (theta .entry)) (now (target .entry))) (last .0) (now (coeffs .entry)) r (now (coeffs .exit)) ⌝ }
+{
+    let setup = task.setup;
+    let support = support_of(coeffs, setup.threshold);
+    if support.same(Support::empty()) {
+        clear(coeffs, task.cols);
+        return Turn::Empty;
+    }
+    if support.same(last) {
+        return Turn::Settled;
+    }
+    let Solved::Done = solve_terms(task, theta, target, support, coeffs, ws) else {
+        clear(coeffs, task.cols);
+        return Turn::Refused;
+    };
+    Turn::Again(support)
+}
+
+// The rounds after a first solve that was not refused: each but the last of them refits.
+pub fn rounds(
+    task: Task,
+    theta: &[f64],
+    target: &[f64],
     coeffs: &mut [f64],
     ws: &mut [f64],
 ) -> Ran
-    requires { ⌜ (Sized (now theta) (now target) «n_rows» «n_cols») × (length (now coeffs) ≡ «n_cols») × (length (now ws) ≡ fit-need solver «n_rows» «n_cols») × (setup .«max_iter» ≤ 1000) × (start (problem-of solver setup (now theta) (now target) «n_rows» «n_cols») ≡ going (now coeffs) []) ⌝ }
-    ensures { λ r. ⌜ CameTo (problem-of solver setup (now (theta .entry)) (now (target .entry)) «n_rows» «n_cols») (setup .«max_iter») (r .stop) (r .refits) (now (coeffs .exit)) ⌝ }
+    requires { ⌜ Ready task (now theta) (now target) (now coeffs) (now ws) × (start (problem-of task (now theta) (now target)) ≡ going (now coeffs) []) ⌝ }
+    ensures { λ r. ⌜ CameTo (problem-of task (now (theta .entry)) (now (target .entry))) (task .setup .«max_iter») (r .stop) (r .refits) (now (coeffs .exit)) ⌝ }
 {
+    let setup = task.setup;
     let mut last = Support::empty();
-    let mut refits = 0;
-    for round in 0..setup.max_iter {
-        let support = support_of(coeffs, setup.threshold);
-        if support.same(Support::empty()) {
-            clear(coeffs, n_cols);
-            return Ran {
-                stop: Stop::Empty,
-                refits,
-            };
+    for refits in 0..setup.max_iter {
+        match round(task, theta, target, last, coeffs, ws) {
+            Turn::Again(support) => {
+                last = support;
+            }
+            Turn::Empty => {
+                return Ran {
+                    stop: Stop::Empty,
+                    refits,
+                };
+            }
+            Turn::Settled => {
+                return Ran {
+                    stop: Stop::Settled,
+                    refits,
+                };
+            }
+            Turn::Refused => {
+                return Ran {
+                    stop: Stop::RefitRefused,
+                    refits: refits + 1,
+                };
+            }
         }
-        if support.same(last) {
-            return Ran {
-                stop: Stop::Settled,
-                refits,
-            };
-        }
-        last = support;
-        refits += 1;
-        let Solved::Done = solve_terms(
-            solver,
-            theta,
-            n_rows,
-            n_cols,
-            target,
-            setup,
-            support,
-            coeffs,
-            ws,
-        ) else {
-            clear(coeffs, n_cols);
-            return Ran {
-                stop: Stop::RefitRefused,
-                refits,
-            };
-        };
     }
     Ran {
         stop: Stop::OutOfRounds,
-        refits,
+        refits: setup.max_iter,
     }
 }

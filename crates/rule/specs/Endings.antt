@@ -13,6 +13,7 @@ use Rattle.steps.specs.Cond.{either, lt-or-ge}
 use Rattle.steps.specs.Table.{getD-tab, tab-cong, tab-replicate}
 use Rattle.support.specs.Word.{has, place}
 use Rattle.support.specs.WordLaws.{word-lt, has-word, has-beyond}
+use Rattle.refusal.specs.Answers.{solved}
 use Rattle.rule.specs.declared.Stop.{Stop}
 use Rattle.rule.specs.declared.Stop.the-variants.{NoData, FirstRefused, Empty, RefitRefused, Settled, OutOfRounds}
 use Rattle.rule.specs.Rule.{Problem, State, going, done, latest, zeros, support, scatter, refit, first, pruned, reported, fit}
@@ -37,9 +38,10 @@ unfolding ofBits
     number (fin s m x) = Unit {0}
 
 module _ (P : Problem) where
-  -- the coefficients are the values of a refit over w, each at its term
+  -- the coefficients are the values that the solve over w gave, each at its term
   pub record Refitted (cs : List Float) (w : ℕ) : Type 0 where
     pub values : List Float
+    pub answer : P .solve w ≡ solved values
     pub placed : cs ≡ scatter (P .cols) w values
 
   -- they settled: a look finds just the terms of the last refit
@@ -82,7 +84,7 @@ module _ (P : Problem) where
     empties = λ r cs ws i. refl;
     settles = λ r cs ws i z e. settles cs ws z e i;
     refused-later = λ r cs ws i z l c q. refl;
-    refits = λ r cs ws i z l vs q. record { values = vs; placed = refl };
+    refits = λ r cs ws i z l vs q. record { values = vs; answer = q; placed = refl };
   }
 
   -- the last pass leaves zeros as they are
@@ -105,26 +107,26 @@ module _ (P : Problem) where
       over Settled cs ws i z = absurd z
       over OutOfRounds cs ws i z = absurd z
 
-  -- settled coefficients hold no NaN where no look keeps one
-  closed-number : ((j : ℕ) → P .keeps j nan ≡ false) → (cs : List Float) (ws : List ℕ) → Closed cs ws → (j : ℕ) → j < P .cols → at cs j ≢ nan
+  -- settled coefficients hold no NaN at a term where no look keeps one
+  closed-number : (j : ℕ) → P .keeps j nan ≡ false → (cs : List Float) (ws : List ℕ) → Closed cs ws → j < P .cols → at cs j ≢ nan
   unfolding scatter support
-  closed-number h cs ws c j l e = +zero≢nan (sym zero-there ∙ e)
+  closed-number j h cs ws c l e = +zero≢nan (sym zero-there ∙ e)
     where
       w : ℕ
       w = latest ws
 
       out : has w j ≡ false
-      out = ap (λ (v : ℕ). has v j) (sym (c .same)) ∙ has-word _ (P .cols) j l ∙ ap (P .keeps j) e ∙ h j
+      out = ap (λ (v : ℕ). has v j) (sym (c .same)) ∙ has-word _ (P .cols) j l ∙ ap (P .keeps j) e ∙ h
 
       zero-there : at cs j ≡ +zero
       zero-there =
           ap (λ (x : List Float). at x j) (c .refitted .placed) ∙ getD-tab (P .cols) _ j nan l
           ∙ ap (λ (b : Bool). cond b (at (c .refitted .values) (place w j)) +zero) out
 
-  -- only OutOfRounds can leave a NaN among the coefficients
-  pub no-nan : ((j : ℕ) → P .keeps j nan ≡ false) → (r : ℕ) → fit P r .stop ≢ OutOfRounds → (j : ℕ) → j < P .cols → at (fit P r .coeffs) j ≢ nan
+  -- only OutOfRounds can leave a NaN at such a term
+  pub no-nan : (j : ℕ) → P .keeps j nan ≡ false → (r : ℕ) → fit P r .stop ≢ OutOfRounds → j < P .cols → at (fit P r .coeffs) j ≢ nan
   unfolding reported Sound Ending pruned
-  no-nan h r k j l = of-fit P sound (λ f. f .stop ≢ OutOfRounds → at (f .coeffs) j ≢ nan) r (λ cs ws i n. absurd (n refl)) (λ t cs ws i n. over t cs ws i) k
+  no-nan j h r k l = of-fit P sound (λ f. f .stop ≢ OutOfRounds → at (f .coeffs) j ≢ nan) r (λ cs ws i n. absurd (n refl)) (λ t cs ws i n. over t cs ws i) k
     where
       from : (cs : List Float) → at cs j ≢ nan → at (pruned P cs) j ≢ nan
       from cs n e = either (λ x. x ≢ nan) (P .clears j (at cs j)) +zero (at cs j) (λ t. +zero≢nan) (λ t. n) (sym (getD-tab (P .cols) _ j nan l) ∙ e)
@@ -137,7 +139,7 @@ module _ (P : Problem) where
       over FirstRefused cs ws i = zeroed cs i
       over Empty cs ws i = zeroed cs i
       over RefitRefused cs ws i = zeroed cs i
-      over Settled cs ws i = from cs (closed-number h cs ws i j l)
+      over Settled cs ws i = from cs (closed-number j h cs ws i l)
       over OutOfRounds cs ws i = absurd i
 
   -- ---- the kept word

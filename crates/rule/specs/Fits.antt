@@ -1,10 +1,11 @@
 -- The two fits: the rule at two solves. Assumes nothing.
 use Prim.Native.Nat.{ℕ, _+_, _-_}
 use mathlib.Core.Bool.{Bool, cond}
+use mathlib.Core.List.{List}
 use lib.Count.{ones}
 use lib.Dec.{eqb, ltb}
 use lib.Ieee.{Float, lt, le}
-use Rattle.steps.specs.Num.{+zero, Entry}
+use Rattle.steps.specs.Num.{+zero, at, Entry, cell}
 use Rattle.steps.specs.Table.{tab, table}
 use Rattle.float64.specs.Root.{rootOf, absOf}
 use Rattle.refusal.specs.Answers.{Solution, solution}
@@ -16,14 +17,15 @@ use Rattle.rule.specs.Rule.{Problem, Fit, fit}
 use Rattle.rule.specs.declared.Setup.{Setup}
 use Rattle.rule.specs.declared.Solver.{Solver}
 use Rattle.rule.specs.declared.Solver.the-variants.{Normal, Qr}
+use Rattle.rule.specs.declared.Task.{Task}
 
 -- the support is every term with |c| at least the threshold (NaN never is); the term number j is not looked at yet: a later order holds terms
-unfoldable pub keeps : Float → ℕ → Float → Bool
-keeps threshold j c = le threshold (absOf c)
+unfoldable pub keeps : Setup → ℕ → Float → Bool
+keeps setup j c = le (setup .threshold) (absOf c)
 
 -- the last pass clears each term with |c| below the threshold; nor is j looked at here
-unfoldable pub clears : Float → ℕ → Float → Bool
-clears threshold j c = lt (absOf c) threshold
+unfoldable pub clears : Setup → ℕ → Float → Bool
+clears setup j c = lt (absOf c) (setup .threshold)
 
 -- a way to solve c columns that are given by their entries
 abbrev pub Solves : Type 0
@@ -56,16 +58,30 @@ solves Normal lambda t rows = by-normal (ridge lambda) t rows
 solves Qr lambda t rows = by-least lambda t rows
 
 -- the problem of a fit: all columns first, then the supported columns in rising order
-unfoldable pub problem : ℕ → ℕ → Float → Solves → Entry → Problem
-problem rows n threshold by e = record {
-  rows = rows;
-  cols = n;
-  keeps = keeps threshold;
-  clears = clears threshold;
-  whole = by n e;
-  solve = λ w. by (ones w) (columns n w e);
+unfoldable pub problem : Task → Solves → Entry → Problem
+problem task by e = record {
+  rows = task .rows;
+  cols = task .cols;
+  keeps = keeps (task .setup);
+  clears = clears (task .setup);
+  whole = by (task .cols) e;
+  solve = λ w. by (ones w) (columns (task .cols) w e);
 }
 
--- the fit by a solver of the matrix e and the target t
-unfoldable pub fit-by : Solver → Entry → (ℕ → Float) → ℕ → ℕ → Setup → Fit
-fit-by solver e t rows n setup = fit (problem rows n (setup .threshold) (solves solver (setup .lambda) t rows) e) (setup .«max_iter»)
+-- the problem of a matrix e and a target t, by the task's solver, and its fit within the task's rounds
+abbrev pub problem-by : Task → Entry → (ℕ → Float) → Problem
+problem-by task e t = problem task (solves (task .solver) (task .setup .lambda) t (task .rows)) e
+
+unfoldable pub fit-by : Task → Entry → (ℕ → Float) → Fit
+fit-by task e t = fit (problem-by task e t) (task .setup .«max_iter»)
+
+-- the matrix that theta holds: by rows
+unfoldable pub matrix-of : Task → List Float → Entry
+matrix-of task theta = cell (task .cols) theta
+
+-- the same of theta and target as a call is lent them
+abbrev pub problem-of : Task → List Float → List Float → Problem
+problem-of task theta target = problem-by task (matrix-of task theta) (at target)
+
+abbrev pub fit-of : Task → List Float → List Float → Fit
+fit-of task theta target = fit-by task (matrix-of task theta) (at target)

@@ -1,7 +1,9 @@
 -- The fit rule, the two fits, and what is promised of them. Assumes nothing.
 pub mod Codes
 pub mod Rule
+pub mod Tasks
 pub mod Fits
+pub mod Sizes
 pub mod Calls
 pub mod Accepted
 pub mod Unique
@@ -12,6 +14,7 @@ pub mod Endings
 pub mod Rounded
 pub mod RightSides
 pub mod Values
+pub mod Alike
 pub mod Made
 pub mod Promises
 pub mod Demand3

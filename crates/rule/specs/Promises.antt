@@ -12,10 +12,10 @@ use Rattle.float64.specs.Root.{absOf}
 use Rattle.support.specs.Word.{has}
 use Rattle.places.specs.Columns.{columns}
 use Rattle.rule.specs.declared.Setup.{Setup}
-use Rattle.rule.specs.declared.Solver.{Solver}
+use Rattle.rule.specs.declared.Task.{Task}
 use Rattle.rule.specs.declared.Stop.the-variants.{OutOfRounds}
 use Rattle.rule.specs.Rule.{Problem, Fit, zeros}
-use Rattle.rule.specs.Fits.{keeps, solves, problem, fit-by}
+use Rattle.rule.specs.Fits.{keeps, problem, problem-by, fit-by}
 use Rattle.rule.specs.Stable.{Steady, steady, Bounded, ZeroKept, refits-few}
 use Rattle.rule.specs.Shrinking.{bounded}
 use Rattle.rule.specs.Endings.{Zeroed, ends-with-zeros, no-nan, kept-lt, kept-rule}
@@ -32,65 +32,64 @@ no-gap x y h t = go (ltb x y) (eqb x y) refl refl t
     go false true p q t = let e = eqb→eq x y (subst (λ (u : Bool). T u) (sym q) tt) in omega (arith, ltb→lt y x h)
     go false false p q t = t
 
-above-zero : (threshold : Float) → T (lt +zero threshold) → (j : ℕ) → T (keeps threshold j +zero) → ⊥
-unfolding lt le eq keeps absOf ofBits
-above-zero nan h j t = h
-above-zero (inf true) h j t = h
-above-zero (inf false) h j t = t
-above-zero (fin true m e) h j t = h
-above-zero (fin false m e) h j t = no-gap (m * up e * 1) (0 * 1 * down e) h t
+above-zero : (threshold : Float) → T (lt +zero threshold) → T (le threshold (absOf +zero)) → ⊥
+unfolding lt le eq absOf ofBits
+above-zero nan h t = h
+above-zero (inf true) h t = h
+above-zero (inf false) h t = t
+above-zero (fin true m e) h t = h
+above-zero (fin false m e) h t = no-gap (m * up e * 1) (0 * 1 * down e) h t
 
--- a NaN is never kept
-nan-out : (threshold : Float) (j : ℕ) → keeps threshold j nan ≡ false
-unfolding keeps absOf le lt eq
-nan-out nan j = refl
-nan-out (inf s) j = refl
-nan-out (fin s m e) j = refl
+-- a NaN is at or above no threshold
+nan-below : (threshold : Float) → le threshold (absOf nan) ≡ false
+unfolding absOf le lt eq
+nan-below nan = refl
+nan-below (inf s) = refl
+nan-below (fin s m e) = refl
 
-module _ (solver : Solver) (e : Entry) (t : ℕ → Float) (rows n : ℕ) (threshold lambda : Float) where
-  -- the problem that the fit is the rule of
-  abbrev pub of : Problem
-  of = problem rows n threshold (solves solver lambda t rows) e
+-- of any task, matrix and target
+module _ (task : Task) (e : Entry) (t : ℕ → Float) where
+  abbrev setup : Setup
+  setup = task .setup
 
-  -- demand 3, at any threshold
-  pub stable : Steady of
-  stable = steady of
-
-  -- demand 3, for a threshold above zero
-  pub bounds : T (lt +zero threshold) → Bounded of
-  unfolding problem ZeroKept
-  bounds h = bounded of (λ j c k. absurd (above-zero threshold h j k))
-
-module _ (solver : Solver) (e : Entry) (t : ℕ → Float) (rows n : ℕ) (setup : Setup) where
-  -- the problem, and the fit within the setup's limit
+  -- the problem that the fit is the rule of, and the fit within the task's rounds
   abbrev P : Problem
-  P = of solver e t rows n (setup .threshold) (setup .lambda)
+  P = problem-by task e t
 
   abbrev f : Fit
-  f = fit-by solver e t rows n setup
+  f = fit-by task e t
+
+  -- demand 3, at any threshold
+  pub stable : Steady P
+  stable = steady P
+
+  -- demand 3, for a threshold above zero
+  pub bounds : T (lt +zero (setup .threshold)) → Bounded P
+  unfolding problem ZeroKept keeps
+  bounds h = bounded P (λ j c k. absurd (above-zero (setup .threshold) h k))
 
   -- a refused solve ends with zeros, and so do no data and an empty support
-  pub zeros-left : Zeroed (f .stop) → f .coeffs ≡ zeros n
+  pub zeros-left : Zeroed (f .stop) → f .coeffs ≡ zeros (task .cols)
   unfolding fit-by problem
   zeros-left z = ends-with-zeros P (setup .«max_iter») z
 
   -- only OutOfRounds can leave a NaN among the coefficients
-  pub numbers-left : f .stop ≢ OutOfRounds → (j : ℕ) → j < n → at (f .coeffs) j ≢ nan
-  unfolding fit-by problem
-  numbers-left k j l = no-nan P (nan-out (setup .threshold)) (setup .«max_iter») k j l
+  pub numbers-left : f .stop ≢ OutOfRounds → (j : ℕ) → j < task .cols → at (f .coeffs) j ≢ nan
+  unfolding fit-by problem keeps
+  numbers-left k j l = no-nan P j (nan-below (setup .threshold)) (setup .«max_iter») k l
 
   -- never more refits than rounds, at any threshold
   pub refits-at-most : f .refits ≤ setup .«max_iter»
   unfolding fit-by
   refits-at-most = refits-few P (setup .«max_iter»)
 
-  -- the kept word is of the n terms
-  pub kept-below : f .kept < 2 ^ n
+  -- the kept word is of the task's terms
+  pub kept-below : f .kept < 2 ^ task .cols
   unfolding fit-by problem
   kept-below = kept-lt P (setup .«max_iter»)
 
   -- bit j is one exactly if j is below n_cols and the final |c(j)| is at least the threshold
-  pub kept-word : (j : ℕ) → has (f .kept) j ≡ (ltb j n && le (setup .threshold) (absOf (at (f .coeffs) j)))
+  pub kept-word : (j : ℕ) → has (f .kept) j ≡ (ltb j (task .cols) && le (setup .threshold) (absOf (at (f .coeffs) j)))
   unfolding fit-by problem keeps
   kept-word j = kept-rule P (setup .«max_iter») j
 
@@ -99,8 +98,8 @@ module _ (solver : Solver) (e : Entry) (t : ℕ → Float) (rows n : ℕ) (setup
   unfolding fit-by problem
   coefficients-made made h =
       made-coeffs P made
-      (λ vs q. solved-column made solver (setup .lambda) t rows n e vs h q .each)
-      (λ w vs q. solved-column made solver (setup .lambda) t rows (ones w) (columns n w e) vs h q .each)
+      (λ vs q. solved-column made (task .solver) (setup .lambda) t (task .rows) (task .cols) e vs h q .each)
+      (λ w vs q. solved-column made (task .solver) (setup .lambda) t (task .rows) (ones w) (columns (task .cols) w e) vs h q .each)
       (setup .«max_iter»)
 
   -- so each is a binary64 where the target's numbers are, whatever theta, threshold and lambda hold

@@ -1,15 +1,17 @@
 -- A solve gives one value a column, each made by an operation, and over the full support it is the solve of all columns. Assumes nothing.
 use mathlib.Core.Path.{_≡_, ap, ap₂, _∙_}
+use mathlib.Core.Logic.{_⊎_, inl, inr}
 use mathlib.Core.Bool.{cond}
 use mathlib.Core.List.{List}
-use Prim.Native.Nat.{ℕ, _+_, _-_, _≤_, _<_}
+use Prim.Native.Nat.{ℕ, _+_, _≤_, _<_}
 use native.Mathlib.Omega.{arith}
+use borrow.Author.Tests.{lt-ltb, le-ltb}
 use lib.Count.{ones}
 use lib.Dec.{eqb, ltb}
 use lib.ListN.{length}
 use lib.Ieee.{Float}
 use Rattle.steps.specs.Num.{+zero, Entry}
-use Rattle.steps.specs.Cond.{either}
+use Rattle.steps.specs.Cond.{either, lt-or-ge}
 use Rattle.steps.specs.Table.{tab, tab-cong, table-cong}
 use Rattle.float64.specs.Root.{rootOf}
 use Rattle.support.specs.Word.{full}
@@ -46,28 +48,27 @@ module _ {Q : Float → Type 0} (made : Rounded Q) where
 pub one-a-column : (solver : Solver) (lambda : Float) (t : ℕ → Float) (rows c : ℕ) (e : Entry) (vs : List Float) → solves solver lambda t rows c e ≡ solved vs → length vs ≡ c
 one-a-column solver lambda t rows c e vs q = solved-column anything solver lambda t rows c e vs (λ i. tt) q .long
 
--- ---- the full support
+-- ---- which entries it looks at
 
-normal-cong : (damp : Float → Float) (t : ℕ → Float) (rows c : ℕ) (e f : Entry) → ((i p : ℕ) → p < c → e i p ≡ f i p) → by-normal damp t rows c e ≡ by-normal damp t rows c f
-unfolding by-normal by-sums jtj-matrix jtr-column damped
-normal-cong damp t rows c e f h =
-    ap₂ (λ (a b : List Float). solution (normal c a b))
-    (table-cong c c _ _ (λ p q a b. ap (λ (x : Float). cond (eqb p q) (damp x) x) (gram-cong e f rows p q (λ i l. h i p a) (λ i l. h i q b))))
-    (tab-cong c _ _ (λ p a. moment-cong e f t rows p (λ i l. h i p a)))
+-- a solve looks only at the entries of its rows and columns
+module _ (rows c : ℕ) (e f : Entry) (h : (i p : ℕ) → i < rows → p < c → e i p ≡ f i p) where
+  augmented-cong : (root : Float) (i p : ℕ) → p < c → (i < rows) ⊎ (rows ≤ i) → augmented rows root e i p ≡ augmented rows root f i p
+  unfolding augmented
+  augmented-cong root i p b (inl l) = rw (lt-ltb i rows l) (h i p l b)
+  augmented-cong root i p b (inr l) = rw (le-ltb i rows l)
 
-least-cong : (lambda : Float) (t : ℕ → Float) (rows c : ℕ) (e f : Entry) → ((i p : ℕ) → p < c → e i p ≡ f i p) → by-least lambda t rows c e ≡ by-least lambda t rows c f
-unfolding by-least augmented
-least-cong lambda t rows c e f h =
-    ap (λ (a : List Float). least (rows + c) c a (tab (rows + c) (padded rows t)))
-    (table-cong (rows + c) c _ _ (λ i p a b. ap (λ (x : Float). cond (ltb i rows) x (cond (eqb (i - rows) p) (rootOf lambda) +zero)) (h i p b)))
+  pub solves-cong : (solver : Solver) (lambda : Float) (t : ℕ → Float) → solves solver lambda t rows c e ≡ solves solver lambda t rows c f
+  unfolding solves by-normal by-sums jtj-matrix jtr-column damped by-least
+  solves-cong Normal lambda t =
+      ap₂ (λ (a b : List Float). solution (normal c a b))
+      (table-cong c c _ _ (λ p q a b. ap (λ (x : Float). cond (eqb p q) (ridge lambda x) x) (gram-cong e f rows p q (λ i l. h i p l a) (λ i l. h i q l b))))
+      (tab-cong c _ _ (λ p a. moment-cong e f t rows p (λ i l. h i p l a)))
+  solves-cong Qr lambda t =
+      ap (λ (a : List Float). least (rows + c) c a (tab (rows + c) (padded rows t)))
+      (table-cong (rows + c) c _ _ (λ i p a b. augmented-cong (rootOf lambda) i p b (lt-or-ge i rows)))
 
--- a solve looks only at the entries of its columns
-pub solves-cong : (solver : Solver) (lambda : Float) (t : ℕ → Float) (rows c : ℕ) (e f : Entry) → ((i p : ℕ) → p < c → e i p ≡ f i p) → solves solver lambda t rows c e ≡ solves solver lambda t rows c f
-unfolding solves
-solves-cong Normal lambda t rows c e f h = normal-cong (ridge lambda) t rows c e f h
-solves-cong Qr lambda t rows c e f h = least-cong lambda t rows c e f h
-
+-- over the full support it is the solve of all columns
 pub solves-full : (solver : Solver) (lambda : Float) (t : ℕ → Float) (rows n : ℕ) (e : Entry) → n ≤ 64 → solves solver lambda t rows (ones (full n)) (columns n (full n) e) ≡ solves solver lambda t rows n e
 solves-full solver lambda t rows n e h =
     ap (λ (c : ℕ). solves solver lambda t rows c (columns n (full n) e)) (ones-full n h)
-    ∙ solves-cong solver lambda t rows n (columns n (full n) e) e (λ i p l. columns-full n e i p h l)
+    ∙ solves-cong rows n (columns n (full n) e) e (λ i p k l. columns-full n e i p h l) solver lambda t

@@ -1,7 +1,10 @@
 // What a fit is given and what it reports.
+pub mod inner;
+
 ghost use mathlib.Core.Path.{_≡_};
-ghost use Rattle.rule.specs.Codes.{stop-code};
+ghost use Rattle.rule.specs.Codes.{fitted-number, stop-code};
 use refusal::Refusal;
+use refusal::number;
 use support::Support;
 
 // The threshold, lambda and max_iter travel together through every layer.
@@ -15,6 +18,14 @@ pub struct Setup {
 pub enum Solver {
     Normal,
     Qr,
+}
+
+// What a fit is asked for: how it solves, theta's sizes, and the setup. A header says just this.
+pub struct Task {
+    pub solver: Solver,
+    pub rows: usize,
+    pub cols: usize,
+    pub setup: Setup,
 }
 
 // Why a fit ended.
@@ -51,5 +62,15 @@ pub fn stop_code(s: Stop) -> u64
         Stop::RefitRefused => 3,
         Stop::Settled => 4,
         Stop::OutOfRounds => 5,
+    }
+}
+
+// A fit's answer by number: 0 for a report, else the refusal's.
+pub fn fitted_number(answer: Fitted) -> u64
+    ensures { λ r. ⌜ r ≡ fitted-number answer ⌝ }
+{
+    match answer {
+        Fitted::Fit(_) => 0,
+        Fitted::Refused(w) => number(w),
     }
 }

@@ -1,10 +1,12 @@
 // Both fits, over one loop.
 pub mod inner;
 
+ghost use Rattle.rule.specs.Tasks.{task-of};
 ghost use Rattle.rule.specs.Calls.{FitCall};
 use rule::Fitted;
 use rule::Setup;
 use rule::Solver;
+use rule::Task;
 
 // Sequential thresholded ridge regression, each solve by the normal equations.
 pub fn strlsq(
@@ -16,18 +18,15 @@ pub fn strlsq(
     coeffs: &mut [f64],
     workspace: &mut [f64],
 ) -> Fitted
-    ensures { λ r. ⌜ FitCall Solver.Normal (now (theta .entry)) (now (target .entry)) «n_rows» «n_cols» setup (now (coeffs .entry)) (now (coeffs .exit)) (now (workspace .entry)) (now (workspace .exit)) r ⌝ }
+    ensures { λ r. ⌜ FitCall (task-of Solver.Normal «n_rows» «n_cols» setup) (now (theta .entry)) (now (target .entry)) (now (coeffs .entry)) (now (coeffs .exit)) (now (workspace .entry)) (now (workspace .exit)) r ⌝ }
 {
-    inner::fit(
-        Solver::Normal,
-        theta,
-        n_rows,
-        n_cols,
-        target,
+    let task = Task {
+        solver: Solver::Normal,
+        rows: n_rows,
+        cols: n_cols,
         setup,
-        coeffs,
-        workspace,
-    )
+    };
+    inner::fit(task, theta, target, coeffs, workspace)
 }
 
 // The same, each solve by least squares.
@@ -40,16 +39,13 @@ pub fn strlsq_qr(
     coeffs: &mut [f64],
     workspace: &mut [f64],
 ) -> Fitted
-    ensures { λ r. ⌜ FitCall Solver.Qr (now (theta .entry)) (now (target .entry)) «n_rows» «n_cols» setup (now (coeffs .entry)) (now (coeffs .exit)) (now (workspace .entry)) (now (workspace .exit)) r ⌝ }
+    ensures { λ r. ⌜ FitCall (task-of Solver.Qr «n_rows» «n_cols» setup) (now (theta .entry)) (now (target .entry)) (now (coeffs .entry)) (now (coeffs .exit)) (now (workspace .entry)) (now (workspace .exit)) r ⌝ }
 {
-    inner::fit(
-        Solver::Qr,
-        theta,
-        n_rows,
-        n_cols,
-        target,
+    let task = Task {
+        solver: Solver::Qr,
+        rows: n_rows,
+        cols: n_cols,
         setup,
-        coeffs,
-        workspace,
-    )
+    };
+    inner::fit(task, theta, target, coeffs, workspace)
 }

@@ -1,0 +1,77 @@
+-- Two problems of the same sizes and tests whose solves agree have the same fits; so a fit looks only at the entries of its rows and columns. Assumes nothing.
+use mathlib.Core.Path.{_≡_, refl, ap, _∙_}
+use mathlib.Core.Bool.{cond}
+use mathlib.Core.List.{List, []}
+use Prim.Native.Nat.{ℕ, zero, suc, _^_, _<_}
+use native.Mathlib.Omega.{arith}
+use lib.Count.{ones}
+use lib.Dec.{eqb}
+use lib.Ieee.{Float}
+use Rattle.steps.specs.Num.{Entry}
+use Rattle.support.specs.Word.{term}
+use Rattle.support.specs.WordLaws.{word-lt}
+use Rattle.support.specs.CountLaws.{ones-is}
+use Rattle.support.specs.TermLaws.{term-is}
+use Rattle.refusal.specs.Answers.{Solution, solved, refused}
+use Rattle.places.specs.Columns.{columns}
+use Rattle.rule.specs.declared.Task.{Task}
+use Rattle.rule.specs.declared.Stop.the-variants.{NoData, Empty, Settled}
+use Rattle.rule.specs.Rule.{Problem, State, going, done, zeros, support, latest, refit, look, round, first, start, rounds, pruned, reported, finish, fit}
+use Rattle.rule.specs.Fits.{problem, problem-by, fit-by}
+use Rattle.rule.specs.Values.{solves-cong}
+
+-- a problem with other solves
+abbrev pub resolved : Problem → Solution → (ℕ → Solution) → Problem
+resolved P a f = record { rows = P .rows; cols = P .cols; keeps = P .keeps; clears = P .clears; whole = a; solve = f }
+
+module _ (P : Problem) (a : Solution) (f : ℕ → Solution) (whole : P .whole ≡ a) (solve : (w : ℕ) → w < 2 ^ P .cols → P .solve w ≡ f w) where
+  abbrev Q : Problem
+  Q = resolved P a f
+
+  same-refit : (ws : List ℕ) (w : ℕ) (s : Solution) → refit P ws w s ≡ refit Q ws w s
+  unfolding refit
+  same-refit ws w (solved vs) = refl
+  same-refit ws w (refused c) = refl
+
+  same-round : (s : State) → round P s ≡ round Q s
+  unfolding round look support
+  same-round (done t cs ws) = refl
+  same-round (going cs ws) =
+      let w = support P cs in
+      ap (λ (x : State). cond (eqb w 0) (done Empty (zeros (P .cols)) ws) (cond (eqb w (latest ws)) (done Settled cs ws) x)) (same-refit ws w (P .solve w) ∙ ap (refit Q ws w) (solve w (word-lt _ (P .cols))))
+
+  same-first : (s : Solution) → first P s ≡ first Q s
+  unfolding first
+  same-first (solved vs) = refl
+  same-first (refused c) = refl
+
+  same-rounds : (r : ℕ) → rounds P r ≡ rounds Q r
+  unfolding rounds start
+  same-rounds zero = ap (λ (x : State). cond (eqb (P .rows) 0) (done NoData (zeros (P .cols)) []) (cond (eqb (P .cols) 0) (done NoData (zeros (P .cols)) []) x)) (same-first (P .whole) ∙ ap (first Q) whole)
+  same-rounds (suc r) = same-round (rounds P r) ∙ ap (round Q) (same-rounds r)
+
+  same-finish : (s : State) → finish P s ≡ finish Q s
+  unfolding finish reported pruned support
+  same-finish (going cs ws) = refl
+  same-finish (done t cs ws) = refl
+
+  pub same-fit : (r : ℕ) → fit P r ≡ fit Q r
+  unfolding fit
+  same-fit r = same-finish (rounds P r) ∙ ap (finish Q) (same-rounds r)
+
+-- of a support's columns only those of the matrix are looked at
+columns-cong : (n w : ℕ) (e f : Entry) (i p : ℕ) → ((j : ℕ) → j < n → e i j ≡ f i j) → term n w p < n → columns n w e i p ≡ columns n w f i p
+unfolding columns
+columns-cong n w e f i p h b = h (term n w p) b
+
+-- a fit looks only at the entries of its rows and columns
+pub fit-entries : (task : Task) (e f : Entry) (t : ℕ → Float) → ((i j : ℕ) → i < task .rows → j < task .cols → e i j ≡ f i j) → fit-by task e t ≡ fit-by task f t
+unfolding fit-by problem
+fit-entries task e f t h =
+    same-fit (problem-by task e t) _ _
+    (solves-cong (task .rows) (task .cols) e f h (task .solver) (task .setup .lambda) t)
+    (λ w b. solves-cong (task .rows) (ones w) (columns (task .cols) w e) (columns (task .cols) w f) (cols w b) (task .solver) (task .setup .lambda) t)
+    (task .setup .«max_iter»)
+  where
+    cols : (w : ℕ) → w < 2 ^ task .cols → (i p : ℕ) → i < task .rows → p < ones w → columns (task .cols) w e i p ≡ columns (task .cols) w f i p
+    cols w b i p l k = columns-cong (task .cols) w e f i p (λ j a. h i j l a) (term-is (task .cols) w p (omega (arith, ones-is w (task .cols) b, k)) .below)

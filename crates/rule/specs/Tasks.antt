@@ -1,0 +1,18 @@
+-- What a fit is asked for, by its parts. Assumes nothing.
+use Prim.Native.Nat.{ℕ}
+use lib.Ieee.{Float}
+use Rattle.rule.specs.declared.Setup.{Setup}
+use Rattle.rule.specs.declared.Solver.{Solver}
+use Rattle.rule.specs.declared.Task.{Task}
+
+-- threshold, lambda and max_iter as one setup
+abbrev pub setup-of : Float → Float → ℕ → Setup
+setup-of threshold lambda limit = record { threshold = threshold; lambda = lambda; «max_iter» = limit }
+
+-- the solver, theta's rows and columns, and the setup as one task
+abbrev pub task-of : Solver → ℕ → ℕ → Setup → Task
+task-of solver rows n setup = record { solver = solver; rows = rows; cols = n; setup = setup }
+
+-- the same task within another limit of rounds
+abbrev pub within : Task → ℕ → Task
+within task limit = task-of (task .solver) (task .rows) (task .cols) (setup-of (task .setup .threshold) (task .setup .lambda) limit)
