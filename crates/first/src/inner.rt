@@ -13,13 +13,7 @@ use slices::inner::clear;
 use support::Support;
 
 // No data, a first solve that is refused, or the rounds.
-pub fn run(
-    task: Task,
-    theta: &[f64],
-    target: &[f64],
-    coeffs: &mut [f64],
-    ws: &mut [f64],
-) -> Ran
+pub fn run(task: Task, theta: &[f64], target: &[f64], coeffs: &mut [f64], ws: &mut [f64]) -> Ran
     requires { ⌜ Ready task (now theta) (now target) (now coeffs) (now ws) ⌝ }
     ensures { λ r. ⌜ CameTo (problem-of task (now (theta .entry)) (now (target .entry))) (task .setup .«max_iter») (r .stop) (r .refits) (now (coeffs .exit)) ⌝ }
 {
@@ -36,14 +30,7 @@ pub fn run(
             refits: 0,
         };
     }
-    let Solved::Done = solve_terms(
-        task,
-        theta,
-        target,
-        Support::full(task.cols),
-        coeffs,
-        ws,
-    ) else {
+    let Solved::Done = solve_terms(task, theta, target, Support::full(task.cols), coeffs, ws) else {
         clear(coeffs, task.cols);
         return Ran {
             stop: Stop::FirstRefused,

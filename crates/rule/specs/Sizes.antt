@@ -1,5 +1,5 @@
 -- The first refusal that applies to a fit, and what holds exactly where none does. Assumes nothing.
-use mathlib.Core.Path.{_≡_, refl, ap, _∙_}
+use mathlib.Core.Path.{_≡_, _∙_}
 use mathlib.Core.Bool.{not}
 use mathlib.Core.List.{List}
 use Prim.Native.Nat.{ℕ, _+_, _*_, _≤_}
@@ -90,7 +90,7 @@ module _ {task : Task} {theta target coeffs space : List Float} where
         eq-eqb (length coeffs) (task .cols) (r .coeffs-long),
         le-ltb (length space) (task-need task) (r .space-long),
       ) in
-      ap (λ (a : Answer). and-then a _) (limits-kept (r .sized .limited)) ∙ fine
+      rw (limits-kept (r .sized .limited)) fine
 
   -- and some refusal to all else
   pub ready : fit-sizes task (length theta) (length target) (length coeffs) (length space) ≡ Done → Ready task theta target coeffs space

@@ -18,13 +18,7 @@ use rule::inner::needed;
 use slices::inner::clear;
 
 // The rounds, the last pass, and the report of what they left.
-fn reported(
-    task: Task,
-    theta: &[f64],
-    target: &[f64],
-    coeffs: &mut [f64],
-    ws: &mut [f64],
-) -> Report
+fn reported(task: Task, theta: &[f64], target: &[f64], coeffs: &mut [f64], ws: &mut [f64]) -> Report
     requires { ⌜ Ready task (now theta) (now target) (now coeffs) (now ws) ⌝ }
     ensures { λ r. ⌜ Reports (fit-of task (now (theta .entry)) (now (target .entry))) r (now (coeffs .exit)) ⌝ }
 {
@@ -68,7 +62,13 @@ pub fn fit(
 ) -> Fitted
     ensures { λ r. ⌜ FitCall task (now (theta .entry)) (now (target .entry)) (now (coeffs .entry)) (now (coeffs .exit)) (now (workspace .entry)) (now (workspace .exit)) r ⌝ }
 {
-    match fit_sizes(task, theta.len(), target.len(), coeffs.len(), workspace.len()) {
+    match fit_sizes(
+        task,
+        theta.len(),
+        target.len(),
+        coeffs.len(),
+        workspace.len(),
+    ) {
         Answer::Done => Fitted::Fit(fit_ready(task, theta, target, coeffs, workspace)),
         Answer::Refused(w) => Fitted::Refused(w),
     }

@@ -4,9 +4,9 @@ use native.Mathlib.Nat.{mul-le-mul}
 use native.Mathlib.Omega.{arith}
 use mathlib.Core.Path.{sym}
 use borrow.Author.Needs.{needs}
-use Rattle.rule.specs.Calls.{fit-need}
-use Rattle.strlsq.proofs.inner.needed.Statement.{statement}
-use Rattle.strlsq.proofs.inner.needed.Tie as tie
+use Rattle.rule.specs.Sizes.{fit-need}
+use Rattle.rule.proofs.inner.needed.Statement.{statement}
+use Rattle.rule.proofs.inner.needed.Tie as tie
 
 -- the products, each at most what the limits give
 module _ (r n : ℕ) (h : r ≤ 4096) (k : n ≤ 64) where
