@@ -9,49 +9,50 @@ ghost use Rattle.support.specs.Word.{has, place, word, with-term};
 ghost use Rattle.rule.specs.Rule.{scatter};
 ghost use Rattle.rule.specs.Fits.{keeps, clears};
 use float64::abs;
+use rule::Setup;
 use support::Col;
 use support::Support;
 use support::Term;
 
 // Whether a look keeps a coefficient; a NaN on either side it does not.
-fn kept(c: f64, threshold: f64) -> bool
-    ensures { λ r. ⌜ r ≡ keeps threshold 0 c ⌝ }
+fn kept(c: f64, setup: Setup) -> bool
+    ensures { λ r. ⌜ r ≡ keeps setup 0 c ⌝ }
 {
-    abs(c) >= threshold
+    abs(c) >= setup.threshold
 }
 
 // The support with a term put in where its coefficient is kept.
-fn look_at(s: Support, t: Term, c: f64, threshold: f64) -> Support
-    ensures { λ r. ⌜ r .0 ≡ cond (keeps threshold (t .0) c) (with-term (s .0) (t .0)) (s .0) ⌝ }
+fn look_at(s: Support, t: Term, c: f64, setup: Setup) -> Support
+    ensures { λ r. ⌜ r .0 ≡ cond (keeps setup (t .0) c) (with-term (s .0) (t .0)) (s .0) ⌝ }
 {
-    if kept(c, threshold) { s.with(t) } else { s }
+    if kept(c, setup) { s.with(t) } else { s }
 }
 
 // The support: every term with |c| at least the threshold.
-pub fn support_of(coeffs: &[f64], threshold: f64) -> Support
+pub fn support_of(coeffs: &[f64], setup: Setup) -> Support
     requires { ⌜ length (now coeffs) ≤ 64 ⌝ }
-    ensures { λ r. ⌜ r .0 ≡ word (λ j. keeps threshold j (at (now (coeffs .entry)) j)) (length (now (coeffs .entry))) ⌝ }
+    ensures { λ r. ⌜ r .0 ≡ word (λ j. keeps setup j (at (now (coeffs .entry)) j)) (length (now (coeffs .entry))) ⌝ }
 {
     let mut s = Support::empty();
     for j in 0..coeffs.len() {
-        s = look_at(s, Term(j), coeffs[j], threshold);
+        s = look_at(s, Term(j), coeffs[j], setup);
     }
     s
 }
 
 // A coefficient after the last pass.
-fn pruned(c: f64, threshold: f64) -> f64
-    ensures { λ r. ⌜ r ≡ cond (clears threshold 0 c) +zero c ⌝ }
+fn pruned(c: f64, setup: Setup) -> f64
+    ensures { λ r. ⌜ r ≡ cond (clears setup 0 c) +zero c ⌝ }
 {
-    if abs(c) < threshold { 0.0 } else { c }
+    if abs(c) < setup.threshold { 0.0 } else { c }
 }
 
 // The last pass: +0.0 at each c with |c| below the threshold.
-pub fn prune(coeffs: &mut [f64], threshold: f64)
-    ensures { λ _. ⌜ now (coeffs .exit) ≡ tab (length (now (coeffs .entry))) (λ j. cond (clears threshold j (at (now (coeffs .entry)) j)) +zero (at (now (coeffs .entry)) j)) ⌝ }
+pub fn prune(coeffs: &mut [f64], setup: Setup)
+    ensures { λ _. ⌜ now (coeffs .exit) ≡ tab (length (now (coeffs .entry))) (λ j. cond (clears setup j (at (now (coeffs .entry)) j)) +zero (at (now (coeffs .entry)) j)) ⌝ }
 {
     for j in 0..coeffs.len() {
-        coeffs[j] = pruned(coeffs[j], threshold);
+        coeffs[j] = pruned(coeffs[j], setup);
     }
 }
 

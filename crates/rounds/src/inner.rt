@@ -41,7 +41,7 @@ pub fn round(
     ensures { λ r. ⌜ Turned (problem-of task (now (theta .entry)) (now (target .entry))) (last .0) (now (coeffs .entry)) r (now (coeffs .exit)) ⌝ }
 {
     let setup = task.setup;
-    let support = support_of(coeffs, setup.threshold);
+    let support = support_of(coeffs, setup);
     if support.same(Support::empty()) {
         clear(coeffs, task.cols);
         return Turn::Empty;

@@ -24,8 +24,8 @@ fn reported(task: Task, theta: &[f64], target: &[f64], coeffs: &mut [f64], ws: &
 {
     let setup = task.setup;
     let ran = run(task, theta, target, coeffs, ws);
-    prune(coeffs, setup.threshold);
-    let kept = support_of(coeffs, setup.threshold);
+    prune(coeffs, setup);
+    let kept = support_of(coeffs, setup);
     let stop = ran.stop;
     Report {
         stop,

@@ -11,7 +11,7 @@ abs-requires c κs = search needs
 
 returns : tie.Need-returns
 unfolding keeps
-returns c = ap (le _) (c .abs .ensures)
+returns c = ap (le _) (c .before .abs .ensures)
 
 pub kept-spec : {M : Type 1} → statement M
 kept-spec = tie.close (tie.spec abs-requires returns)

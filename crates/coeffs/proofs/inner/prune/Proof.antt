@@ -15,11 +15,11 @@ use Rattle.coeffs.proofs.inner.prune.Statement.{statement}
 use Rattle.coeffs.proofs.inner.prune.Tie as tie
 
 abbrev Inv-loop : tie.InvT-loop
-Inv-loop coeffs₀ threshold j₀ j-end coeffs j =
-    (j-end ≡ length coeffs₀) × (j ≤ length coeffs₀) × Wrote (λ k. k) 0 j (λ k. cond (clears threshold k (at coeffs₀ k)) +zero (at coeffs₀ k)) coeffs₀ coeffs
+Inv-loop coeffs₀ setup j₀ j-end coeffs j =
+    (j-end ≡ length coeffs₀) × (j ≤ length coeffs₀) × Wrote (λ k. k) 0 j (λ k. cond (clears setup k (at coeffs₀ k)) +zero (at coeffs₀ k)) coeffs₀ coeffs
 
 abbrev μ-loop : tie.MeasureT-loop
-μ-loop coeffs₀ threshold j₀ j-end coeffs j = j-end - j
+μ-loop coeffs₀ setup j₀ j-end coeffs j = j-end - j
 
 loop-holds : tie.Need-loop-holds Inv-loop μ-loop
 loop-holds c = (refl, omega arith, wrote-none _ _ _ _)
@@ -50,7 +50,7 @@ unfolding clears
 loop-again c =
     let turn = c .before .before .before .loop in
     let a = c .before .before .before .before .before .args in
-    let pass : ℕ → Float → Float = λ k x. cond (clears (a .threshold) k x) +zero x in
+    let pass : ℕ → Float → Float = λ k x. cond (clears (a .setup) k x) +zero x in
     let cs₀ = now (a .coeffs) in (
       refl,
       omega arith,

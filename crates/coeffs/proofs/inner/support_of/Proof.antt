@@ -14,10 +14,10 @@ use Rattle.coeffs.proofs.inner.support_of.Statement.{statement}
 use Rattle.coeffs.proofs.inner.support_of.Tie as tie
 
 abbrev Inv-loop : tie.InvT-loop
-Inv-loop coeffs threshold s₀ j₀ j-end s j = (j-end ≡ length coeffs) × (j ≤ length coeffs) × (length coeffs ≤ 64) × (s .0 ≡ word (λ k. keeps threshold k (at coeffs k)) j)
+Inv-loop coeffs setup s₀ j₀ j-end s j = (j-end ≡ length coeffs) × (j ≤ length coeffs) × (length coeffs ≤ 64) × (s .0 ≡ word (λ k. keeps setup k (at coeffs k)) j)
 
 abbrev μ-loop : tie.MeasureT-loop
-μ-loop coeffs threshold s₀ j₀ j-end s j = j-end - j
+μ-loop coeffs setup s₀ j₀ j-end s j = j-end - j
 
 empty-requires : tie.Need-empty-requires Inv-loop μ-loop
 empty-requires c κs = search needs
@@ -46,7 +46,7 @@ loop-again c =
     let start = at-loop .before .before .before in
     let turn = at-loop .loop in
     let a = start .args in
-    (refl, omega arith, omega arith, word-more (λ k. keeps (a .threshold) k (at (now (a .coeffs)) k)) (turn .j) (turn .s .0) _ (omega arith) (turn .inv .3) (c .look-at .ensures))
+    (refl, omega arith, omega arith, word-more (λ k. keeps (a .setup) k (at (now (a .coeffs)) k)) (turn .j) (turn .s .0) _ (omega arith) (turn .inv .3) (c .look-at .ensures))
 
 returns : tie.Need-returns Inv-loop μ-loop
 returns c =
