@@ -54,17 +54,21 @@ module _ (a b : List Float) (n : ℕ) (a' b' a'' b'' : List Float) (r s : ℕ) w
       let same = lu-unique a b n a' b' a'' b'' _ _ (p .call) (q .call) in
       (numbered p q (same .0), same .1, same .2)
 
-pub export-normal-unique : (a b : List Float) (n : ℕ) (w b' w' b'' w'' : List Float) (r s : ℕ) → Numbered answer-number (NormalCall a b n b' w w') r → Numbered answer-number (NormalCall a b n b'' w w'') s → (r ≡ s) × (b' ≡ b'') × (w' ≡ w'')
+pub export-normal-unique : (a b : List Float) (n : ℕ) (w b' w' b'' w'' : List Float) (r s : ℕ)
+    → Numbered answer-number (NormalCall a b n b' w w') r → Numbered answer-number (NormalCall a b n b'' w w'') s → (r ≡ s) × (b' ≡ b'') × (w' ≡ w'')
 export-normal-unique a b n w b' w' b'' w'' r s p q =
     let same = normal-unique a b n w b' w' b'' w'' _ _ (p .call) (q .call) in
     (numbered p q (same .0), same .1, same .2)
 
-pub export-qr-unique : (a : List Float) (m n : ℕ) (d b w d' b' w' d'' b'' w'' : List Float) (r s : ℕ) → Numbered answer-number (QrCall a m n d d' b b' w w') r → Numbered answer-number (QrCall a m n d d'' b b'' w w'') s → (r ≡ s) × (d' ≡ d'') × (b' ≡ b'') × (w' ≡ w'')
+pub export-qr-unique : (a : List Float) (m n : ℕ) (d b w d' b' w' d'' b'' w'' : List Float) (r s : ℕ)
+    → Numbered answer-number (QrCall a m n d d' b b' w w') r → Numbered answer-number (QrCall a m n d d'' b b'' w w'') s
+    → (r ≡ s) × (d' ≡ d'') × (b' ≡ b'') × (w' ≡ w'')
 export-qr-unique a m n d b w d' b' w' d'' b'' w'' r s p q =
     let same = qr-unique a m n d b w d' b' w' d'' b'' w'' _ _ (p .call) (q .call) in
     (numbered p q (same .0), same .1, same .2, same .3)
 
-pub export-least-unique : (a b : List Float) (m n : ℕ) (o w o' w' o'' w'' : List Float) (r s : ℕ) → Numbered answer-number (LeastCall a b m n o o' w w') r → Numbered answer-number (LeastCall a b m n o o'' w w'') s → (r ≡ s) × (o' ≡ o'') × (w' ≡ w'')
+pub export-least-unique : (a b : List Float) (m n : ℕ) (o w o' w' o'' w'' : List Float) (r s : ℕ)
+    → Numbered answer-number (LeastCall a b m n o o' w w') r → Numbered answer-number (LeastCall a b m n o o'' w w'') s → (r ≡ s) × (o' ≡ o'') × (w' ≡ w'')
 export-least-unique a b m n o w o' w' o'' w'' r s p q =
     let same = least-unique a b m n o w o' w' o'' w'' _ _ (p .call) (q .call) in
     (numbered p q (same .0), same .1, same .2)

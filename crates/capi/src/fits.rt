@@ -36,7 +36,8 @@ pub extern "C" fn dapmotar_strlsq(
     workspace: &mut [f64],
     report: &mut [u64; 3],
 ) -> u64
-    ensures { λ r. ⌜ Numbered fitted-number (Reported (FitCall (task-of Solver.Normal «n_rows» «n_cols» (setup-of threshold lambda «max_iter»)) (now (theta .entry)) (now (target .entry)) (now (coeffs .entry)) (now (coeffs .exit)) (now (workspace .entry)) (now (workspace .exit))) (now (report .entry)) (now (report .exit))) r ⌝ }
+    ensures { λ r. ⌜ Numbered fitted-number (Reported (FitCall (task-of Solver.Normal «n_rows» «n_cols» (setup-of threshold lambda «max_iter»))
+        (now (theta .entry)) (now (target .entry)) (now (coeffs .entry)) (now (coeffs .exit)) (now (workspace .entry)) (now (workspace .exit))) (now (report .entry)) (now (report .exit))) r ⌝ }
 {
     let setup = Setup {
         threshold: threshold,
@@ -62,7 +63,8 @@ pub extern "C" fn dapmotar_strlsq_qr(
     workspace: &mut [f64],
     report: &mut [u64; 3],
 ) -> u64
-    ensures { λ r. ⌜ Numbered fitted-number (Reported (FitCall (task-of Solver.Qr «n_rows» «n_cols» (setup-of threshold lambda «max_iter»)) (now (theta .entry)) (now (target .entry)) (now (coeffs .entry)) (now (coeffs .exit)) (now (workspace .entry)) (now (workspace .exit))) (now (report .entry)) (now (report .exit))) r ⌝ }
+    ensures { λ r. ⌜ Numbered fitted-number (Reported (FitCall (task-of Solver.Qr «n_rows» «n_cols» (setup-of threshold lambda «max_iter»))
+        (now (theta .entry)) (now (target .entry)) (now (coeffs .entry)) (now (coeffs .exit)) (now (workspace .entry)) (now (workspace .exit))) (now (report .entry)) (now (report .exit))) r ⌝ }
 {
     let setup = Setup {
         threshold: threshold,

@@ -44,7 +44,8 @@ pub extern "C" fn dapmotar_qr(
     betas: &mut [f64],
     workspace: &mut [f64],
 ) -> u64
-    ensures { λ r. ⌜ Numbered answer-number (QrCall (now (a .entry)) m n (now («data» .entry)) (now («data» .exit)) (now (betas .entry)) (now (betas .exit)) (now (workspace .entry)) (now (workspace .exit))) r ⌝ }
+    ensures { λ r. ⌜ Numbered answer-number (QrCall (now (a .entry)) m n (now («data» .entry)) (now («data» .exit)) (now (betas .entry)) (now (betas .exit))
+        (now (workspace .entry)) (now (workspace .exit))) r ⌝ }
 {
     answer_number(decomp::qr(a, m, n, data, betas, workspace))
 }

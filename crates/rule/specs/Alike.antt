@@ -38,7 +38,8 @@ module _ (P : Problem) (a : Solution) (f : ℕ → Solution) (whole : P .whole �
   same-round (done t cs ws) = refl
   same-round (going cs ws) =
       let w = support P cs in
-      ap (λ (x : State). cond (eqb w 0) (done Empty (zeros (P .cols)) ws) (cond (eqb w (latest ws)) (done Settled cs ws) x)) (same-refit ws w (P .solve w) ∙ ap (refit Q ws w) (solve w (word-lt _ (P .cols))))
+      ap (λ (x : State). cond (eqb w 0) (done Empty (zeros (P .cols)) ws) (cond (eqb w (latest ws)) (done Settled cs ws) x))
+      (same-refit ws w (P .solve w) ∙ ap (refit Q ws w) (solve w (word-lt _ (P .cols))))
 
   same-first : (s : Solution) → first P s ≡ first Q s
   unfolding first
@@ -47,7 +48,9 @@ module _ (P : Problem) (a : Solution) (f : ℕ → Solution) (whole : P .whole �
 
   same-rounds : (r : ℕ) → rounds P r ≡ rounds Q r
   unfolding rounds start
-  same-rounds zero = ap (λ (x : State). cond (eqb (P .rows) 0) (done NoData (zeros (P .cols)) []) (cond (eqb (P .cols) 0) (done NoData (zeros (P .cols)) []) x)) (same-first (P .whole) ∙ ap (first Q) whole)
+  same-rounds zero =
+      let none = done NoData (zeros (P .cols)) [] in
+      ap (λ (x : State). cond (eqb (P .rows) 0) none (cond (eqb (P .cols) 0) none x)) (same-first (P .whole) ∙ ap (first Q) whole)
   same-rounds (suc r) = same-round (rounds P r) ∙ ap (round Q) (same-rounds r)
 
   same-finish : (s : State) → finish P s ≡ finish Q s

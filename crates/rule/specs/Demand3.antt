@@ -16,7 +16,7 @@ use Rattle.rule.specs.declared.Fitted.the-variants as F
 use Rattle.rule.specs.Rule.{Fit, refitted}
 use Rattle.rule.specs.Tasks.{within}
 use Rattle.rule.specs.Fits.{keeps, clears, problem, fit-by, matrix-of, problem-of, fit-of}
-use Rattle.rule.specs.Sizes.{task-need, Ready}
+use Rattle.rule.specs.Sizes.{task-need, Limited, Sized, Ready}
 use Rattle.rule.specs.Calls.{report-of, FitCall}
 use Rattle.rule.specs.Accepted.{answers, leaves, was-ready, report-is}
 use Rattle.rule.specs.Stable.{Falling}
@@ -55,8 +55,9 @@ module _ (task : Task) (theta target : List Float) where
   unfolding fit-by problem keeps clears matrix-of
   calls-stable {r} {m} {report} {ds} {v} one stops more permitted long room two =
       let a = was-ready one in
-      let b : Ready (within task m) theta target ds v
-      = record { sized = record { limited = record { few-cols = a .sized .limited .few-cols; few-rows = a .sized .limited .few-rows; few-rounds = permitted }; theta-long = a .sized .theta-long; target-long = a .sized .target-long }; coeffs-long = long; space-long = room } in
+      let limited : Limited 64 4096 (within task m) = record { few-cols = a .sized .limited .few-cols; few-rows = a .sized .limited .few-rows; few-rounds = permitted } in
+      let sized : Sized (within task m) theta target = record { limited = limited; theta-long = a .sized .theta-long; target-long = a .sized .target-long } in
+      let b : Ready (within task m) theta target ds v = record { sized = sized; coeffs-long = long; space-long = room } in
       let told : report ≡ report-of (rule r) = report-is one in
       let same : rule m ≡ rule r = stable task (matrix-of task theta) (at target) .steady r m more (λ e. stops (ap (λ p. p .stop) told ∙ e)) in
       (answers b two ∙ ap (λ f. F.Fit (report-of f)) same ∙ ap F.Fit (sym told), leaves b two ∙ ap (λ f. f .coeffs) same ∙ sym (leaves a one))

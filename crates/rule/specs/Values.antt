@@ -70,7 +70,8 @@ module _ (rows c : ℕ) (e f : Entry) (h : (i p : ℕ) → i < rows → p < c �
       (table-cong (rows + c) c _ _ (λ i p a b. augmented-cong (rootOf lambda) i p b (lt-or-ge i rows)))
 
 -- over the full support it is the solve of all columns
-pub solves-full : (solver : Solver) (lambda : Float) (t : ℕ → Float) (rows n : ℕ) (e : Entry) → n ≤ 64 → solves solver lambda t rows (ones (full n)) (columns n (full n) e) ≡ solves solver lambda t rows n e
+pub solves-full : (solver : Solver) (lambda : Float) (t : ℕ → Float) (rows n : ℕ) (e : Entry) → n ≤ 64
+    → solves solver lambda t rows (ones (full n)) (columns n (full n) e) ≡ solves solver lambda t rows n e
 solves-full solver lambda t rows n e h =
     ap (λ (c : ℕ). solves solver lambda t rows c (columns n (full n) e)) (ones-full n h)
     ∙ solves-cong rows n (columns n (full n) e) e (λ i p k l. columns-full n e i p h l) solver lambda t

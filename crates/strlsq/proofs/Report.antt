@@ -39,7 +39,8 @@ module _ (task : Task) (theta target : List Float) where
       record { report = rw (r .ends, ← r .counts) (ap (λ (w : ℕ). record { stop = stop; refits = refits; kept = record { 0 = w } }) word-of); coeffs = last ∙ sym (ap (λ f. f .coeffs) (r .ends)) }
 
   -- a refusal leaves all unchanged
-  pub fit-refused : (a : Answer) (w : Refusal) (cs ws : List Float) → a ≡ fit-sizes task (length theta) (length target) (length cs) (length ws) → a ≡ A.Refused w → FitCall task theta target cs cs ws ws (F.Refused w)
+  pub fit-refused : (a : Answer) (w : Refusal) (cs ws : List Float) → a ≡ fit-sizes task (length theta) (length target) (length cs) (length ws) → a ≡ A.Refused w
+      → FitCall task theta target cs cs ws ws (F.Refused w)
   fit-refused a w cs ws e t = record { sizes = a; judged = e; answer = rw t; coeffs = rw t; space = rw t }
 
   -- where nothing is refused

@@ -18,7 +18,8 @@ pub fn strlsq(
     coeffs: &mut [f64],
     workspace: &mut [f64],
 ) -> Fitted
-    ensures { λ r. ⌜ FitCall (task-of Solver.Normal «n_rows» «n_cols» setup) (now (theta .entry)) (now (target .entry)) (now (coeffs .entry)) (now (coeffs .exit)) (now (workspace .entry)) (now (workspace .exit)) r ⌝ }
+    ensures { λ r. ⌜ FitCall (task-of Solver.Normal «n_rows» «n_cols» setup) (now (theta .entry)) (now (target .entry))
+        (now (coeffs .entry)) (now (coeffs .exit)) (now (workspace .entry)) (now (workspace .exit)) r ⌝ }
 {
     let task = Task {
         solver: Solver::Normal,
@@ -39,7 +40,8 @@ pub fn strlsq_qr(
     coeffs: &mut [f64],
     workspace: &mut [f64],
 ) -> Fitted
-    ensures { λ r. ⌜ FitCall (task-of Solver.Qr «n_rows» «n_cols» setup) (now (theta .entry)) (now (target .entry)) (now (coeffs .entry)) (now (coeffs .exit)) (now (workspace .entry)) (now (workspace .exit)) r ⌝ }
+    ensures { λ r. ⌜ FitCall (task-of Solver.Qr «n_rows» «n_cols» setup) (now (theta .entry)) (now (target .entry))
+        (now (coeffs .entry)) (now (coeffs .exit)) (now (workspace .entry)) (now (workspace .exit)) r ⌝ }
 {
     let task = Task {
         solver: Solver::Qr,

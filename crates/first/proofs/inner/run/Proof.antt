@@ -115,4 +115,6 @@ returns-4 c = search needs
 pub run-spec : {M : Type 1} → statement M
 run-spec =
     tie.close
-    (tie.spec clear-requires same-length returns returns-2 full-requires solve-terms-requires enum-told enum-told-2 clear-requires-2 same-length-2 same-length-3 returns-3 rounds-requires same-length-4 same-length-5 returns-4)
+    (tie.spec
+    clear-requires same-length returns returns-2 full-requires solve-terms-requires enum-told enum-told-2 clear-requires-2 same-length-2 same-length-3
+    returns-3 rounds-requires same-length-4 same-length-5 returns-4)

@@ -136,4 +136,6 @@ returns-4 c =
 pub round-spec : {M : Type 1} → statement M
 round-spec =
     tie.close
-    (tie.spec support-of-requires empty-requires same-requires clear-requires same-length returns same-requires-2 same-length-2 returns-2 solve-terms-requires enum-told enum-told-2 clear-requires-2 same-length-3 same-length-4 returns-3 same-length-5 same-length-6 returns-4)
+    (tie.spec
+    support-of-requires empty-requires same-requires clear-requires same-length returns same-requires-2 same-length-2 returns-2 solve-terms-requires
+    enum-told enum-told-2 clear-requires-2 same-length-3 same-length-4 returns-3 same-length-5 same-length-6 returns-4)

@@ -145,4 +145,7 @@ returns-4 c =
 pub rounds-spec : {M : Type 1} → statement M
 rounds-spec =
     tie.close
-    (tie.spec Inv-loop μ-loop empty-requires loop-holds round-requires enum-known-support enum-told same-length same-length-2 returns enum-told-2 same-length-3 same-length-4 returns-2 enum-told-3 add-t20 same-length-5 same-length-6 returns-3 add-refits loop-less loop-again same-length-7 same-length-8 returns-4)
+    (tie.spec
+    Inv-loop μ-loop empty-requires loop-holds round-requires enum-known-support enum-told same-length same-length-2 returns enum-told-2 same-length-3
+    same-length-4 returns-2 enum-told-3 add-t20 same-length-5 same-length-6 returns-3 add-refits loop-less loop-again same-length-7 same-length-8
+    returns-4)
