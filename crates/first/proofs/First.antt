@@ -23,7 +23,7 @@ use Rattle.rule.specs.Values.{one-a-column, solves-full, scatter-full}
 use Rattle.refit.specs.Parts.{OverSupport}
 use Rattle.refit.specs.Placed.{gave-done, gave-refused, placed-solved, placed-refused}
 use Rattle.rounds.specs.Ran.{CameTo}
-use Rattle.rounds.specs.Ended.{zeroed, ended}
+use Rattle.rounds.specs.Ended.{zeroed, came-to}
 
 -- no columns: no coefficients
 pub none-left : (n : ℕ) (cs : List Float) → n ≡ 0 → length cs ≡ n → cs ≡ zeros n
@@ -40,7 +40,7 @@ module _ (task : Task) (theta target : List Float) where
   -- a start that is done is the end
   at-once : {t : Stop} {x : List Float} → start P ≡ done t (zeros (task .cols)) [] → x ≡ zeros (task .cols) → CameTo P limit t 0 x
   unfolding rounds
-  at-once {t} {x} e q = ended P limit [] (stays P 0 limit (e ∙ ap (λ (c : List Float). done t c []) (sym q)) zero-le) refl
+  at-once {t} {x} e q = came-to P limit [] (stays P 0 limit (e ∙ ap (λ (c : List Float). done t c []) (sym q)) zero-le) refl
 
   pub no-rows : {x : List Float} → task .rows ≡ 0 → x ≡ zeros (task .cols) → CameTo P limit NoData 0 x
   unfolding start problem

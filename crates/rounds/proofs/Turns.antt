@@ -14,7 +14,7 @@ use Rattle.rounds.specs.declared.inner.Turn.{Turn}
 use Rattle.rounds.specs.declared.inner.Turn.the-variants as T
 use Rattle.rounds.specs.Turned.{turned, Turned}
 use Rattle.rounds.specs.Ran.{CameTo}
-use Rattle.rounds.specs.Ended.{ended}
+use Rattle.rounds.specs.Ended.{came-to}
 
 -- after r rounds, each of which refitted, the rule goes on with these coefficients and this last support
 pub record Going (P : Problem) (r : ℕ) (cs : List Float) (last : ℕ) : Type 0 where
@@ -41,10 +41,10 @@ module _ (P : Problem) where
 
     module _ {m : ℕ} (l : r < m) where
       pub ends-empty : Turned P last cs T.Empty x → CameTo P m S.Empty r x
-      ends-empty u = ended P m (g .past) (stays P (suc r) m (next T.Empty u) l) (g .count-is)
+      ends-empty u = came-to P m (g .past) (stays P (suc r) m (next T.Empty u) l) (g .count-is)
 
       pub ends-settled : Turned P last cs T.Settled x → CameTo P m S.Settled r x
-      ends-settled u = ended P m (g .past) (stays P (suc r) m (next T.Settled u) l) (g .count-is)
+      ends-settled u = came-to P m (g .past) (stays P (suc r) m (next T.Settled u) l) (g .count-is)
 
       pub ends-refused : Turned P last cs T.Refused x → CameTo P m S.RefitRefused (r + 1) x
-      ends-refused u = ended P m (support P cs ∷ g .past) (stays P (suc r) m (next T.Refused u) l) (add-one r ∙ ap suc (g .count-is))
+      ends-refused u = came-to P m (support P cs ∷ g .past) (stays P (suc r) m (next T.Refused u) l) (add-one r ∙ ap suc (g .count-is))

@@ -14,6 +14,6 @@ pub zeroed : (n : ℕ) (cs : List Float) {x : List Float} → length cs ≡ n �
 zeroed n cs l e = e ∙ cleared-all n cs l
 
 -- a state that is done is what the fit reports
-pub ended : (P : Problem) (m : ℕ) {t : Stop} {k : ℕ} {cs : List Float} (ws : List ℕ) → rounds P m ≡ done t cs ws → k ≡ length ws → CameTo P m t k cs
+pub came-to : (P : Problem) (m : ℕ) {t : Stop} {k : ℕ} {cs : List Float} (ws : List ℕ) → rounds P m ≡ done t cs ws → k ≡ length ws → CameTo P m t k cs
 unfolding fit finish
-ended P m ws e i = record { refitted = ws; ends = ap (finish P) e; counts = i }
+came-to P m ws e i = record { refitted = ws; ends = ap (finish P) e; counts = i }

@@ -17,8 +17,8 @@ use rule::inner::fit_sizes;
 use rule::inner::needed;
 use slices::inner::clear;
 
-// The rounds, the last pass, and the report of what they left.
-fn reported(task: Task, theta: &[f64], target: &[f64], coeffs: &mut [f64], ws: &mut [f64]) -> Report
+// The fit in a workspace: the rounds, the last pass, and the report of what they left.
+fn fit_in(task: Task, theta: &[f64], target: &[f64], coeffs: &mut [f64], ws: &mut [f64]) -> Report
     requires { ⌜ Ready task (now theta) (now target) (now coeffs) (now ws) ⌝ }
     ensures { λ r. ⌜ Reports (fit-of task (now (theta .entry)) (now (target .entry))) r (now (coeffs .exit)) ⌝ }
 {
@@ -47,7 +47,7 @@ pub fn fit_ready(
 {
     let solver = task.solver;
     let need = needed(solver, task.rows, task.cols);
-    let report = reported(task, theta, target, coeffs, &mut workspace[0..need]);
+    let report = fit_in(task, theta, target, coeffs, &mut workspace[0..need]);
     clear(workspace, need);
     report
 }

@@ -13,17 +13,17 @@ use Rattle.strlsq.proofs.inner.fit_ready.Tie as tie
 needed-requires : tie.Need-needed-requires
 needed-requires c κs = search needs
 
-sub-reported : tie.Need-sub-reported
-sub-reported c = search needs
+sub-fit-in : tie.Need-sub-fit-in
+sub-fit-in c = search needs
 
-part-reported-start : tie.Need-part-reported-start
-part-reported-start c = search needs
+part-fit-in-start : tie.Need-part-fit-in-start
+part-fit-in-start c = search needs
 
-part-reported-end : tie.Need-part-reported-end
-part-reported-end c = search needs
+part-fit-in-end : tie.Need-part-fit-in-end
+part-fit-in-end c = search needs
 
-reported-requires : tie.Need-reported-requires
-reported-requires c κs = search needs
+fit-in-requires : tie.Need-fit-in-requires
+fit-in-requires c κs = search needs
 
 clear-requires : tie.Need-clear-requires
 clear-requires c κs = search needs
@@ -38,12 +38,12 @@ returns : tie.Need-returns
 unfolding withPart
 returns c =
     let at-clear = c .before .before in
-    let at-reported = at-clear .before .before .before .before .before .before in
-    let at-needed = at-reported .before .before .before in
+    let at-fit-in = at-clear .before .before .before .before .before .before in
+    let at-needed = at-fit-in .before .before .before in
     let start = at-needed .before .before .before .before .before in
     let space = now (start .args .workspace) in
     let need = at-needed .needed .result in
-    let made = at-reported .reported in
+    let made = at-fit-in .fit-in in
     let room : need ≤ length space = rw (at-needed .needed .ensures) (start .pre .space-long) in
     let long : length (made .last .1 .1 .1 .1 .0) ≡ need - 0 = made .kept .1 .1 .1 .1 .0 ∙ length-take-le (need - 0) space (omega (arith, room)) in
     (made .ensures, rw (← at-needed .needed .ensures) (at-clear .clear .ensures ∙ cleared-with 0 need need (made .last .1 .1 .1 .1 .0) space (omega arith) (omega arith) room long))
@@ -51,4 +51,4 @@ returns c =
 pub fit-ready-spec : {M : Type 1} → statement M
 fit-ready-spec =
     tie.close
-    (tie.spec needed-requires sub-reported part-reported-start part-reported-end reported-requires clear-requires same-length same-length-2 returns)
+    (tie.spec needed-requires sub-fit-in part-fit-in-start part-fit-in-end fit-in-requires clear-requires same-length same-length-2 returns)

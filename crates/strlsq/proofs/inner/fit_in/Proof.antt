@@ -1,10 +1,10 @@
--- `reported` meets its contract: the rounds, the last pass, the kept word.
+-- `fit_in` meets its contract: the rounds, the last pass, the kept word.
 use mathlib.Core.Path.{_∙_}
 use borrow.Author.Needs.{needs}
 use denote.Ref.{now}
 use Rattle.strlsq.proofs.Report.{reports}
-use Rattle.strlsq.proofs.inner.reported.Statement.{statement}
-use Rattle.strlsq.proofs.inner.reported.Tie as tie
+use Rattle.strlsq.proofs.inner.fit_in.Statement.{statement}
+use Rattle.strlsq.proofs.inner.fit_in.Tie as tie
 
 run-requires : tie.Need-run-requires
 run-requires c κs = search needs
@@ -32,7 +32,7 @@ returns c =
     reports (a .task) (now (a .theta)) (now (a .target)) (ran .result .stop) (ran .result .refits) (c .support-of .result)
     (ran .last .1 .1 .1 .0) (at-prune .prune .last .0) long (at-prune .prune .kept .0 ∙ long) (ran .ensures) (at-prune .prune .ensures) (c .support-of .ensures)
 
-pub reported-spec : {M : Type 1} → statement M
-reported-spec =
+pub fit-in-spec : {M : Type 1} → statement M
+fit-in-spec =
     tie.close
     (tie.spec run-requires prune-requires support-of-requires same-length same-length-2 returns)
