@@ -1,16 +1,16 @@
 -- How a solve over a support ends: refused, or its values put at their terms. Assumes nothing.
 use mathlib.Core.Path.{_≡_, ap, _∙_}
 use mathlib.Core.List.{List, _++_}
-use Prim.Native.Nat.{ℕ, _*_, _^_, _<_}
+use Prim.Native.Nat.{ℕ, _-_, _*_, _^_, _<_}
+use native.Mathlib.Omega.{arith}
 use lib.Count.{ones}
 use lib.ListN.{length, take}
-use lib.Seq.{take-at}
+use lib.Seq.{take-at, take-take}
 use lib.Ieee.{Float}
-use Rattle.steps.specs.Num.{at, cell}
+use Rattle.steps.specs.Num.{at}
 use Rattle.refusal.specs.Answers.{Solution, solved, solution, told}
 use Rattle.refusal.specs.declared.Solved.{Solved}
 use Rattle.refusal.specs.declared.Solved.the-variants.{Done, Refused}
-use Rattle.places.specs.Columns.{columns}
 use Rattle.sums.specs.Products.{gram, moment, ridge, jtj-matrix, jtr-column}
 use Rattle.normal.specs.Normal.{normal}
 use Rattle.least.specs.Least.{values}
@@ -20,6 +20,7 @@ use Rattle.rule.specs.declared.Task.{Task}
 use Rattle.rule.specs.declared.Solver.the-variants.{Normal}
 use Rattle.refit.specs.Parts.{Counted, gave, placed}
 use Rattle.refit.proofs.Head.{scatter-head}
+use Rattle.refit.proofs.Large.{chosen}
 
 module _ (n w : ℕ) (s : Solution) (r : Solved) where
   -- refused: what stands in the coefficients is not looked at
@@ -30,16 +31,18 @@ module _ (n w : ℕ) (s : Solution) (r : Solved) where
   pub done-out : {m : ℕ} {x : List Float} (vs rest : List Float) → r ≡ Done → gave r vs ≡ s → m ≡ n → w < 2 ^ n → length vs ≡ ones w → x ≡ scatter m w (vs ++ rest) → solved x ≡ placed n w s
   done-out vs rest e q i h l p = rw (p, i, scatter-head n w vs rest h l, ← q, e)
 
-  -- the same of a solve whose values stand at the head of what it left
-  pub refused-values : (k c : ℕ) (x y : List Float) → r ≡ Refused c → values k (told r y) ≡ s → gave r x ≡ placed n w s
-  unfolding values
-  refused-values k c x y e q = rw (← q, e)
-
-  pub done-values : {x : List Float} (k : ℕ) (y : List Float) → r ≡ Done → values k (told r y) ≡ s → x ≡ scatter n w (take k y) → solved x ≡ placed n w s
-  unfolding values
-  done-values k y e q p = rw (p, ← q, e)
+-- the values of least squares, read at the head of what it left
+pub read-out : (r : Solved) (k : ℕ) (x b : List Float) {s : Solution} → b ≡ take k x → values k (told r x) ≡ s → gave r b ≡ s
+unfolding values
+read-out Done k x b e q = ap solved e ∙ q
+read-out (Refused c) k x b e q = q
 
 -- the normal equations of the sums, the matrix standing at the head of a slice, are the solve of the support's columns
-pub normal-is : {task : Task} {theta target matrix b : List Float} {w k : ℕ} (rest : List Float) → Counted task theta target w k → task .solver ≡ Normal → length matrix ≡ k * k → let e = columns (task .cols) w (cell (task .cols) theta) in matrix ≡ jtj-matrix (ridge (task .setup .lambda)) (ones w) (gram e (task .rows)) → b ≡ jtr-column (ones w) (moment e (at target) (task .rows)) → solution (normal k (take (k * k) (matrix ++ rest)) b) ≡ problem-of task theta target .solve w
-unfolding problem matrix-of solves by-normal by-sums
-normal-is {matrix = matrix} {k = k} rest s is l p q = rw (take-at matrix rest (k * k) l, p, q, s .count, is)
+module _ {task : Task} {theta target : List Float} {w k : ℕ} (s : Counted task theta target w k) (is : task .solver ≡ Normal) where
+  pub normal-is : {matrix b : List Float} (rest : List Float) → length matrix ≡ k * k
+      → matrix ≡ jtj-matrix (ridge (task .setup .lambda)) (ones w) (gram (chosen task w theta) (task .rows))
+      → b ≡ jtr-column (ones w) (moment (chosen task w theta) (at target) (task .rows))
+      → solution (normal k (take (k * k) (take (2 * (k * k) - 0) (matrix ++ rest))) b) ≡ problem-of task theta target .solve w
+  unfolding problem matrix-of solves by-normal by-sums
+  normal-is {matrix = matrix} rest long p q =
+      rw (take-take (k * k) (2 * (k * k) - 0) (matrix ++ rest) (omega arith), take-at matrix rest (k * k) long, p, q, s .count, is)

@@ -1,51 +1,61 @@
 -- A matrix and a right-hand side in one slice, lent as its head, and the values read behind the matrix. Assumes nothing.
 use mathlib.Core.Path.{_≡_, sym, ap, ap₂, _∙_}
 use mathlib.Core.List.{List, _++_}
-use Prim.Native.Nat.{ℕ, _+_, _-_, _*_, _≤_}
+use Prim.Native.Nat.{ℕ, _+_, _-_, _≤_}
 use native.Mathlib.Nat.{sub-zero}
 use native.Mathlib.Omega.{arith}
 use lib.Count.{ones}
 use lib.ListN.{length, take, drop, length-append, length-take, length-drop}
 use lib.Seq.{take-at, drop-at}
 use lib.Ieee.{Float}
-use Rattle.steps.specs.Num.{at, cell}
+use Rattle.steps.specs.Num.{at}
 use Rattle.steps.specs.Table.{tab, table, length-tab, length-table}
 use Rattle.steps.specs.Space.{part, withPart, length-with}
 use Rattle.steps.specs.Glue.{both-parts, read-behind}
 use Rattle.float64.specs.Root.{rootOf}
-use Rattle.places.specs.Columns.{columns}
 use Rattle.least.specs.Least.{least}
 use Rattle.rule.specs.Fits.{augmented, padded, by-least, problem, problem-of, matrix-of, solves}
 use Rattle.rule.specs.declared.Task.{Task}
 use Rattle.rule.specs.declared.Solver.the-variants.{Qr}
 use Rattle.refit.specs.Parts.{Counted}
-use Rattle.refit.proofs.Large.{cells, both}
+use Rattle.refit.proofs.Large.{cells, both, chosen}
+
+-- the matrix that least squares solves
+abbrev ridged : Task → ℕ → List Float → List Float
+ridged task w theta = table (task .rows + ones w) (ones w) (augmented (task .rows) (rootOf (task .setup .lambda)) (chosen task w theta))
+
+-- a slice with a written into its head, and b behind that
+abbrev head-in : Task → ℕ → List Float → List Float → List Float
+head-in task k a ws = withPart 0 (cells task k) a ws
+
+abbrev both-in : Task → ℕ → List Float → List Float → List Float → List Float
+both-in task k a b ws = withPart (cells task k) (both task k) b (head-in task k a ws)
 
 -- the length of a lent head
 pub length-head : (n : ℕ) (l : List Float) → n ≤ length l → length (take (n - 0) l) ≡ n
 length-head n l h = rw sub-zero (simp length-take (omega arith))
 
--- a is made as the matrix at the head of a slice of just this room, b as the right-hand side behind it
-module _ {task : Task} {theta target : List Float} {w k : ℕ} (s : Counted task theta target w k) (ws : List Float) (l : length ws ≡ both task k) {a : List Float} (is-a : a ≡ table (task .rows + ones w) (ones w) (augmented (task .rows) (rootOf (task .setup .lambda)) (columns (task .cols) w (cell (task .cols) theta)))) where
+module _ {task : Task} {theta target : List Float} {w k : ℕ} (s : Counted task theta target w k) (ws : List Float) (l : length ws ≡ both task k) {a : List Float} (is-a : a ≡ ridged task w theta) where
   length-a : length a ≡ cells task k
   length-a = rw (s .count, is-a) (length-table _ _ _)
 
-  pub room-behind : length (part (cells task k) (both task k) (withPart 0 (cells task k) a ws)) ≡ length target + k
+  pub room-behind : length (part (cells task k) (both task k) (head-in task k a ws)) ≡ length target + k
   room-behind =
       let e = length-with 0 (cells task k) a ws (omega arith) (omega arith) (length-a ∙ sym (sub-zero _)) in
       simp (length-take, length-drop) (omega (arith, s .sized .target-long))
 
   module _ {b : List Float} (is-b : b ≡ tab (length target + k) (padded (length target) (at target))) where
-    joined : withPart (cells task k) (both task k) b (withPart 0 (cells task k) a ws) ≡ a ++ b
+    joined : both-in task k a b ws ≡ a ++ b
     joined = both-parts (cells task k) (task .rows + k) ws a b l length-a
 
-    pub length-both : length (withPart (cells task k) (both task k) b (withPart 0 (cells task k) a ws)) ≡ both task k
+    pub length-both : length (both-in task k a b ws) ≡ both task k
     length-both =
         let e : length b ≡ task .rows + k = ap length is-b ∙ length-tab _ _ ∙ rw (s .sized .target-long) in
         ap length joined ∙ length-append a b ∙ (let z : length a + length b ≡ both task k = omega (arith, length-a) in z)
 
     -- the solve of what stands there is by least squares
-    pub least-is : task .solver ≡ Qr → let x = withPart (cells task k) (both task k) b (withPart 0 (cells task k) a ws) in least (task .rows + k) k (take (cells task k) x) (drop (cells task k) x) ≡ problem-of task theta target .solve w
+    pub least-is : task .solver ≡ Qr
+        → least (task .rows + k) k (take (cells task k) (both-in task k a b ws)) (drop (cells task k) (both-in task k a b ws)) ≡ problem-of task theta target .solve w
     unfolding problem matrix-of solves by-least
     least-is is =
         rw is
@@ -64,6 +74,3 @@ module _ (task : Task) (k : ℕ) (ws x : List Float) (fits : both task k ≤ len
 
   pub read : part (cells task k) (cells task k + k) (withPart 0 (both task k) x ws) ≡ take k (drop (cells task k) x)
   read = read-behind (cells task k) (task .rows + k) k ws x length-x (omega arith)
-
-  pub read-long : length (part (cells task k) (cells task k + k) (withPart 0 (both task k) x ws)) ≡ k
-  read-long = ap length read ∙ simp (length-take, length-drop) (omega (arith, length-x))

@@ -2,15 +2,38 @@
 pub mod by_least;
 pub mod by_normal;
 
-ghost use Prim.Native.Nat.{_^_, _<_};
-ghost use Rattle.rule.specs.Sizes.{Ready};
-ghost use Rattle.refit.specs.Parts.{OverSupport};
+ghost use mathlib.Core.Path.{_≡_};
+ghost use Prim.Native.Nat.{_^_, _≤_, _<_};
+ghost use lib.ListN.{length};
+ghost use Rattle.rule.specs.Fits.{problem-of};
+ghost use Rattle.rule.specs.Sizes.{Ready, task-need};
+ghost use Rattle.refit.specs.Parts.{Counted, OverSupport, gave};
 use crate::inner::by_least::solve_qr;
 use crate::inner::by_normal::solve_normal;
+use coeffs::inner::scatter;
 use refusal::Solved;
 use rule::Solver;
 use rule::Task;
 use support::Support;
+
+// The values of the support's columns by reduced place, in b.
+fn solve_columns(
+    task: Task,
+    theta: &[f64],
+    target: &[f64],
+    support: Support,
+    b: &mut [f64],
+    ws: &mut [f64],
+) -> Solved
+    requires { ⌜ Counted task (now theta) (now target) (support .0) (length (now b)) × (task-need task ≤ length (now ws)) ⌝ }
+    ensures { λ r. ⌜ gave r (now (b .exit)) ≡ problem-of task (now (theta .entry)) (now (target .entry)) .solve (support .0) ⌝ }
+{
+    let solver = task.solver;
+    match solver {
+        Solver::Normal => solve_normal(task, theta, target, support, b, ws),
+        Solver::Qr => solve_qr(task, theta, target, support, b, ws),
+    }
+}
 
 // The solve over a support's columns, its values put at their terms.
 pub fn solve_terms(
@@ -24,9 +47,11 @@ pub fn solve_terms(
     requires { ⌜ Ready task (now theta) (now target) (now coeffs) (now ws) × (support .0 < 2 ^ task .cols) ⌝ }
     ensures { λ r. ⌜ OverSupport task (now (theta .entry)) (now (target .entry)) (support .0) r (now (coeffs .exit)) ⌝ }
 {
-    let solver = task.solver;
-    match solver {
-        Solver::Normal => solve_normal(task, theta, target, support, coeffs, ws),
-        Solver::Qr => solve_qr(task, theta, target, support, coeffs, ws),
-    }
+    let n_active = support.count();
+    let solved = solve_columns(task, theta, target, support, &mut coeffs[0..n_active], ws);
+    let Solved::Done = solved else {
+        return solved;
+    };
+    scatter(coeffs, support);
+    Solved::Done
 }

@@ -1,5 +1,5 @@
 -- `qr_values` meets its contract: what is solved is the augmented matrix and the padded target.
-use mathlib.Core.Path.{_≡_, _∙_}
+use mathlib.Core.Path.{_∙_}
 use Prim.Native.Nat.{_≤_}
 use native.Mathlib.Omega.{arith}
 use borrow.Author.Needs.{needs}
