@@ -81,9 +81,10 @@ pub fn rounds(task: Task, theta: &[f64], target: &[f64], coeffs: &mut [f64], ws:
                 };
             }
             Turn::Refused => {
+                let counted = refits + 1;
                 return Ran {
                     stop: Stop::RefitRefused,
-                    refits: refits + 1,
+                    refits: counted,
                 };
             }
         }

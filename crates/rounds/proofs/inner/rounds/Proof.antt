@@ -102,8 +102,8 @@ returns-2 c =
 enum-told-3 : tie.Need-enum-told-3 Inv-loop μ-loop
 enum-told-3 c = search needs
 
-add-t20 : tie.Need-add-t20 Inv-loop μ-loop
-add-t20 c =
+add-counted : tie.Need-add-counted Inv-loop μ-loop
+add-counted c =
     let t = turn (c .before .before .before .before .before .before) in
     omega (arith, in-limit t, start t .pre .0 .sized .limited .few-rounds)
 
@@ -147,5 +147,5 @@ rounds-spec =
     tie.close
     (tie.spec
     Inv-loop μ-loop empty-requires loop-holds round-requires enum-known-support enum-told same-length same-length-2 returns enum-told-2 same-length-3
-    same-length-4 returns-2 enum-told-3 add-t20 same-length-5 same-length-6 returns-3 add-refits loop-less loop-again same-length-7 same-length-8
+    same-length-4 returns-2 enum-told-3 add-counted same-length-5 same-length-6 returns-3 add-refits loop-less loop-again same-length-7 same-length-8
     returns-4)

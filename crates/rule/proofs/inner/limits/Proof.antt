@@ -7,7 +7,9 @@ use Rattle.rule.proofs.inner.limits.Tie as tie
 
 returns : tie.Need-returns
 unfolding limits
-returns c = simp (lt-ltb _ _ (c .if1 .taken))
+returns c =
+    let a = c .before .before .before .args in
+    simp (lt-ltb (a .cols) (a .task .cols) (c .if1 .taken))
 
 returns-2 : tie.Need-returns-2
 unfolding limits
