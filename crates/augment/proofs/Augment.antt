@@ -26,7 +26,8 @@ pub ridge-none : (rows k : ℕ) (root : Float) (s : List Float) → Ridged rows 
 ridge-none rows k root s = record { long = refl; new = λ r c h g. absurd (omega arith); old = λ r c h g. refl }
 
 -- one more of the rows below
-pub ridge-more : (rows k : ℕ) (root : Float) (i : ℕ) (s s' s'' : List Float) → Ridged rows k root i s s' → Wrote (λ c. (rows + i) * k + c) 0 k (λ c. cond (eqb i c) root +zero) s' s'' → Ridged rows k root (i + 1) s s''
+pub ridge-more : (rows k : ℕ) (root : Float) (i : ℕ) (s s' s'' : List Float) → Ridged rows k root i s s'
+    → Wrote (λ c. (rows + i) * k + c) 0 k (λ c. cond (eqb i c) root +zero) s' s'' → Ridged rows k root (i + 1) s s''
 ridge-more rows k root i s s' s'' d u =
     record {
       long = u .long ∙ d .long;

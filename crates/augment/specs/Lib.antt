@@ -1,2 +1,2 @@
--- The rows below theta's in QR's matrix. Assumes nothing.
+-- QR's matrix, and the rows below theta's in it. Assumes nothing.
 pub mod Ridged

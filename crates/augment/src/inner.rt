@@ -1,19 +1,17 @@
 // Theta's supported columns with as many more rows below, and the target with zeros below it: what least squares solves for a refit.
 ghost use mathlib.Core.Path.{_≡_};
 ghost use mathlib.Core.Bool.{cond};
-ghost use Prim.Native.Nat.{_+_, _*_, _^_, _≤_, _<_};
+ghost use Prim.Native.Nat.{_+_, _*_, _≤_, _<_};
 ghost use lib.Count.{ones};
 ghost use lib.Dec.{eqb};
 ghost use lib.ListN.{length, set};
 ghost use Rattle.steps.specs.Num.{+zero, at, cell};
 ghost use Rattle.steps.specs.Rows.{Rows};
-ghost use Rattle.steps.specs.Table.{tab, table};
+ghost use Rattle.steps.specs.Table.{tab};
 ghost use Rattle.steps.specs.Wrote.{Wrote};
-ghost use Rattle.float64.specs.Root.{rootOf};
-ghost use Rattle.places.specs.Columns.{Listed, listed};
-ghost use Rattle.places.specs.Columns.{columns};
-ghost use Rattle.rule.specs.Fits.{augmented, padded};
-ghost use Rattle.augment.specs.Ridged.{Ridged};
+ghost use Rattle.places.specs.Columns.{Within, Listed, listed};
+ghost use Rattle.rule.specs.Fits.{padded};
+ghost use Rattle.augment.specs.Ridged.{Ridged, qr-matrix};
 use float64::sqrt;
 use places::inner::at_place;
 use places::inner::list_terms;
@@ -106,8 +104,8 @@ fn augment_with(
     s: &mut [f64],
     terms: &mut [usize],
 )
-    requires { ⌜ («n_cols» ≤ 64) × (length (now terms) ≡ «n_cols») × («n_rows» ≤ 4096) × (length (now theta) ≡ «n_rows» * «n_cols») × (support .0 < 2 ^ «n_cols») × (length (now s) ≡ («n_rows» + ones (support .0)) * ones (support .0)) ⌝ }
-    ensures { λ _. ⌜ now (s .exit) ≡ table («n_rows» + ones (support .0)) (ones (support .0)) (augmented «n_rows» (rootOf lambda) (columns «n_cols» (support .0) (cell «n_cols» (now (theta .entry))))) ⌝ }
+    requires { ⌜ Within (now theta) «n_rows» «n_cols» (support .0) × (length (now terms) ≡ «n_cols») × (length (now s) ≡ («n_rows» + ones (support .0)) * ones (support .0)) ⌝ }
+    ensures { λ _. ⌜ now (s .exit) ≡ qr-matrix «n_rows» «n_cols» (support .0) lambda (now (theta .entry)) ⌝ }
 {
     let n_active = support.count();
     list_terms(support, n_cols, terms);
@@ -123,8 +121,8 @@ pub fn augment(
     lambda: f64,
     s: &mut [f64],
 )
-    requires { ⌜ («n_cols» ≤ 64) × («n_rows» ≤ 4096) × (length (now theta) ≡ «n_rows» * «n_cols») × (support .0 < 2 ^ «n_cols») × (length (now s) ≡ («n_rows» + ones (support .0)) * ones (support .0)) ⌝ }
-    ensures { λ _. ⌜ now (s .exit) ≡ table («n_rows» + ones (support .0)) (ones (support .0)) (augmented «n_rows» (rootOf lambda) (columns «n_cols» (support .0) (cell «n_cols» (now (theta .entry))))) ⌝ }
+    requires { ⌜ Within (now theta) «n_rows» «n_cols» (support .0) × (length (now s) ≡ («n_rows» + ones (support .0)) * ones (support .0)) ⌝ }
+    ensures { λ _. ⌜ now (s .exit) ≡ qr-matrix «n_rows» «n_cols» (support .0) lambda (now (theta .entry)) ⌝ }
 {
     let mut terms = [0usize; 64];
     augment_with(

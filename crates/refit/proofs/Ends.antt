@@ -7,7 +7,8 @@ use lib.Count.{ones}
 use lib.ListN.{length, take}
 use lib.Seq.{take-at, take-take}
 use lib.Ieee.{Float}
-use Rattle.steps.specs.Num.{at}
+use Rattle.steps.specs.Num.{at, Entry, cell}
+use Rattle.places.specs.Columns.{columns}
 use Rattle.refusal.specs.Answers.{Solution, solved, solution, told}
 use Rattle.refusal.specs.declared.Solved.{Solved}
 use Rattle.refusal.specs.declared.Solved.the-variants.{Done, Refused}
@@ -20,7 +21,6 @@ use Rattle.rule.specs.declared.Task.{Task}
 use Rattle.rule.specs.declared.Solver.the-variants.{Normal}
 use Rattle.refit.specs.Parts.{Counted, gave, placed}
 use Rattle.refit.proofs.Head.{scatter-head}
-use Rattle.refit.proofs.Large.{chosen}
 
 module _ (n w : ℕ) (s : Solution) (r : Solved) where
   -- refused: what stands in the coefficients is not looked at
@@ -36,6 +36,10 @@ pub read-out : (r : Solved) (k : ℕ) (x b : List Float) {s : Solution} → b �
 unfolding values
 read-out Done k x b e q = ap solved e ∙ q
 read-out (Refused c) k x b e q = q
+
+-- the columns of theta that the support w names
+abbrev chosen : Task → ℕ → List Float → Entry
+chosen task w theta = columns (task .cols) w (cell (task .cols) theta)
 
 -- the normal equations of the sums, the matrix standing at the head of a slice, are the solve of the support's columns
 module _ {task : Task} {theta target : List Float} {w k : ℕ} (s : Counted task theta target w k) (is : task .solver ≡ Normal) where

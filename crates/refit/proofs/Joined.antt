@@ -4,25 +4,20 @@ use mathlib.Core.List.{List, _++_}
 use Prim.Native.Nat.{ℕ, _+_, _-_, _≤_}
 use native.Mathlib.Nat.{sub-zero}
 use native.Mathlib.Omega.{arith}
-use lib.Count.{ones}
 use lib.ListN.{length, take, drop, length-append, length-take, length-drop}
 use lib.Seq.{take-at, drop-at}
 use lib.Ieee.{Float}
 use Rattle.steps.specs.Num.{at}
-use Rattle.steps.specs.Table.{tab, table, length-tab, length-table}
+use Rattle.steps.specs.Table.{tab, length-tab, length-table}
 use Rattle.steps.specs.Space.{part, withPart, length-with}
 use Rattle.steps.specs.Glue.{both-parts, read-behind}
-use Rattle.float64.specs.Root.{rootOf}
 use Rattle.least.specs.Least.{least}
-use Rattle.rule.specs.Fits.{augmented, padded, by-least, problem, problem-of, matrix-of, solves}
+use Rattle.rule.specs.Fits.{padded, by-least, problem, problem-of, matrix-of, solves}
 use Rattle.rule.specs.declared.Task.{Task}
 use Rattle.rule.specs.declared.Solver.the-variants.{Qr}
+use Rattle.augment.specs.Ridged.{qr-matrix}
 use Rattle.refit.specs.Parts.{Counted}
-use Rattle.refit.proofs.Large.{cells, both, chosen}
-
--- the matrix that least squares solves
-abbrev ridged : Task → ℕ → List Float → List Float
-ridged task w theta = table (task .rows + ones w) (ones w) (augmented (task .rows) (rootOf (task .setup .lambda)) (chosen task w theta))
+use Rattle.refit.proofs.Large.{cells, both}
 
 -- a slice with a written into its head, and b behind that
 abbrev head-in : Task → ℕ → List Float → List Float → List Float
@@ -35,7 +30,9 @@ both-in task k a b ws = withPart (cells task k) (both task k) b (head-in task k 
 pub length-head : (n : ℕ) (l : List Float) → n ≤ length l → length (take (n - 0) l) ≡ n
 length-head n l h = rw sub-zero (simp length-take (omega arith))
 
-module _ {task : Task} {theta target : List Float} {w k : ℕ} (s : Counted task theta target w k) (ws : List Float) (l : length ws ≡ both task k) {a : List Float} (is-a : a ≡ ridged task w theta) where
+-- a is made as QR's matrix at the head of a slice of just this room, b as its right-hand side behind it
+module _ {task : Task} {theta target : List Float} {w k : ℕ} (s : Counted task theta target w k) (ws : List Float) (l : length ws ≡ both task k)
+    {a : List Float} (is-a : a ≡ qr-matrix (task .rows) (task .cols) w (task .setup .lambda) theta) where
   length-a : length a ≡ cells task k
   length-a = rw (s .count, is-a) (length-table _ _ _)
 

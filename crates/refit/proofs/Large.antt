@@ -6,8 +6,7 @@ use native.Mathlib.Nat.{mul-le-mul}
 use native.Mathlib.Omega.{arith}
 use lib.Count.{ones-le}
 use lib.Ieee.{Float}
-use Rattle.steps.specs.Num.{Entry, cell}
-use Rattle.places.specs.Columns.{Within, columns}
+use Rattle.places.specs.Columns.{Within}
 use Rattle.rule.specs.Sizes.{fit-need, task-need}
 use Rattle.rule.specs.declared.Task.{Task}
 use Rattle.rule.specs.declared.Solver.{Solver}
@@ -20,10 +19,6 @@ cells task k = (task .rows + k) * k
 
 abbrev pub both : Task → ℕ → ℕ
 both task k = cells task k + (task .rows + k)
-
--- the columns of theta that the support w names
-abbrev pub chosen : Task → ℕ → List Float → Entry
-chosen task w theta = columns (task .cols) w (cell (task .cols) theta)
 
 module _ {task : Task} {theta target : List Float} {w k : ℕ} (s : Counted task theta target w k) where
   pub few : k ≤ task .cols

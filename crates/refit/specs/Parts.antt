@@ -11,7 +11,7 @@ use Rattle.rule.specs.Fits.{problem-of}
 use Rattle.rule.specs.Sizes.{Sized}
 use Rattle.rule.specs.declared.Task.{Task}
 
--- the support w names k columns of theta, which is as the task's sizes say
+-- theta and target are as the task's sizes say, and the support w names k of theta's columns
 pub record Counted (task : Task) (theta target : List Float) (w k : ℕ) : Type 0 where
   pub sized : Sized task theta target
   pub within : w < 2 ^ task .cols

@@ -6,7 +6,7 @@ use borrow.Author.Needs.{needs}
 use denote.Ref.{now}
 use lib.ListN.{length}
 use Rattle.steps.specs.Space.{withPart}
-use Rattle.refit.proofs.Large.{narrow, cells}
+use Rattle.refit.proofs.Large.{narrow, columns-in, cells}
 use Rattle.refit.proofs.Joined.{length-head, room-behind, length-both, least-is}
 use Rattle.refit.proofs.inner.by_least.qr_values.Statement.{statement}
 use Rattle.refit.proofs.inner.by_least.qr_values.Tie as tie
@@ -35,7 +35,7 @@ augment-requires c κs =
     let s = start .pre .0 in
     let e = cells (start .args .task) (start .args .n-active) in
     let fits : e ≤ length (now (start .args .ws)) = omega (arith, start .pre .1) in
-    (s .sized .limited .few-cols, s .sized .limited .few-rows, s .sized .theta-long, s .within, rw (← s .count) (length-head e (now (start .args .ws)) fits))
+    (columns-in s, rw (← s .count) (length-head e (now (start .args .ws)) fits))
 
 mul-pad : tie.Need-mul-pad
 mul-pad c = search needs
