@@ -6,7 +6,7 @@ ghost use lib.ListN.{length};
 ghost use Rattle.frames.specs.Exchange.{answer-of};
 ghost use Rattle.cases.specs.List.{Placed, Tallied};
 use hex::inner::all_hex;
-use hex::inner::number;
+use hex::inner::number_at;
 use libc::STDOUT_FILENO;
 
 // What stands at a place of the list: a name up to its end, an input and an answer up to theirs, or no entry.
@@ -44,11 +44,11 @@ fn entry_at(list: &[u8], at: usize) -> Entry
     if !all_hex(list, at + 4, 4) {
         return Entry::Nothing;
     }
-    let first = size(number(list, at, 4));
+    let first = size(number_at(list, at, 4));
     if first > left - 9 {
         return Entry::Nothing;
     }
-    let second = size(number(list, at + 4, 4));
+    let second = size(number_at(list, at + 4, 4));
     if second > left - 9 - first {
         return Entry::Nothing;
     }

@@ -17,7 +17,7 @@ use Rattle.refusal.specs.declared.Answer.the-variants.{Done, Refused}
 use Rattle.refusal.specs.declared.Refusal.{Refusal}
 use Rattle.refusal.specs.declared.Refusal.the-variants.{ManyColumns, ManyRows, ManyRounds, Malformed}
 use Rattle.hex.specs.All.{all}
-use Rattle.hex.specs.Hex.{value, all-hex, number}
+use Rattle.hex.specs.Hex.{value, all-hex, number-at}
 use Rattle.reader.specs.Header.{header-formed, header, head-of}
 use Rattle.reader.specs.Rows.{row-at, rows-formed}
 use Rattle.writer.specs.Answer.{refusal-line}
@@ -37,8 +37,8 @@ all-same f g (suc n) h = ap₂ _&&_ (all-same f g n (λ i l. h i (omega arith)))
 
 -- two inputs with the same bytes where a header stands
 module _ (s t : List ℕ) (same : (i : ℕ) → i < 45 → getD s i 0 ≡ getD t i 0) where
-  number-same : (a n : ℕ) → a + n ≤ 45 → number s a n ≡ number t a n
-  unfolding number
+  number-same : (a n : ℕ) → a + n ≤ 45 → number-at s a n ≡ number-at t a n
+  unfolding number-at
   number-same a zero h = refl
   number-same a (suc n) h = ap₂ (λ (x y : ℕ). x * 16 + value y) (number-same a n (omega arith)) (same (a + n) (omega arith))
 

@@ -21,7 +21,7 @@ text (S._∷_ c s) = code c ∷ text s
 
 -- all that the frames compute with
 unfoldable pub framed : Unit {0}
-unfolding text toBits isNan all H.value H.glyph H.all-hex H.number H.digits H.bits D.header-formed D.header D.head-of
+unfolding text toBits isNan all H.value H.glyph H.all-hex H.number-at H.digits H.bits D.header-formed D.header D.head-of
     R.row-at R.row-formed R.rows-formed A.refusal-line A.report-line A.coefficient-lines
     X.checked X.fit-of X.fit-lines X.answer-lines X.answer-to X.answer-of
 framed = tt

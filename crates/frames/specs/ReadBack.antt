@@ -10,7 +10,7 @@ use lib.Ieee.{Float, nan, binary64, fits}
 use lib.Ieee.Bits.{ofBits-fits}
 use Rattle.steps.specs.Num.{at}
 use Rattle.steps.specs.Table.{tab}
-use Rattle.hex.specs.Hex.{number, float, digits, bits, newline}
+use Rattle.hex.specs.Hex.{number-at, float, digits, bits, newline}
 use Rattle.hex.specs.ReadBack.{length-digits, read-back, float-back}
 use Rattle.rule.specs.Rule.{Fit}
 use Rattle.rule.specs.Codes.{stop-code}
@@ -31,9 +31,9 @@ use Rattle.refusal.specs.declared.Answer.the-variants.{Done}
 
 -- what the digits of an answer say of a fit
 pub record Says (a : List ℕ) (f : Fit) : Type 0 where
-  pub stop : number a 0 2 ≡ stop-code (f .stop)
-  pub refits : number a 2 4 ≡ f .refits
-  pub kept : number a 6 16 ≡ f .kept
+  pub stop : number-at a 0 2 ≡ stop-code (f .stop)
+  pub refits : number-at a 2 4 ≡ f .refits
+  pub kept : number-at a 6 16 ≡ f .kept
   pub coefficient : (j : ℕ) → j < length (f .coeffs) → float a (23 + 17 * j) ≡ at (f .coeffs) j
 
 code-lt : (s : Stop) → stop-code s < 16 ^ 2
@@ -45,7 +45,7 @@ code-lt Settled = lit< tt
 code-lt OutOfRounds = lit< tt
 
 -- a number whose digits stand in a text, and where
-number-in : (s before after : List ℕ) (a n w : ℕ) → s ≡ before ++ (digits n w ++ after) → length before ≡ a → w < 16 ^ n → number s a n ≡ w
+number-in : (s before after : List ℕ) (a n w : ℕ) → s ≡ before ++ (digits n w ++ after) → length before ≡ a → w < 16 ^ n → number-at s a n ≡ w
 number-in s before after a n w e len h = rw (e, ← len) (read-back n w before after h)
 
 -- the line of coefficient j has those of the coefficients before it in front
