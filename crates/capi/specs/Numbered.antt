@@ -4,10 +4,8 @@ use mathlib.Core.Bool.{cond}
 use mathlib.Core.List.{List, [], _∷_}
 use Prim.Native.Nat.{ℕ}
 use lib.Dec.{ltb}
-use lib.Ieee.{Float}
-use Rattle.rule.specs.Calls.{fit-need}
+use Rattle.rule.specs.Sizes.{fit-need}
 use Rattle.rule.specs.Codes.{stop-code}
-use Rattle.rule.specs.declared.Setup.{Setup}
 use Rattle.rule.specs.declared.Solver.{Solver}
 use Rattle.rule.specs.declared.Fitted.{Fitted}
 use Rattle.rule.specs.declared.Fitted.the-variants.{Fit, Refused}
@@ -17,10 +15,6 @@ pub record Numbered {A : Type 0} (number-of : A → ℕ) (C : A → Type 0) (r :
   pub answer : A
   pub call : C answer
   pub number : r ≡ number-of answer
-
--- threshold, lambda and max_iter as one setup
-abbrev pub setup-of : Float → Float → ℕ → Setup
-setup-of threshold lambda limit = record { threshold = threshold; lambda = lambda; «max_iter» = limit }
 
 -- stop, refits and kept word after a fit; a refusal leaves the report unchanged
 abbrev pub reported : Fitted → List ℕ → List ℕ

@@ -16,7 +16,7 @@ use Rattle.solve.specs.Unique.{cholesky-unique, lu-unique, normal-unique, least
 use Rattle.rule.specs.Calls.{FitCall}
 use Rattle.rule.specs.Codes.{fitted-number}
 use Rattle.rule.specs.Unique.{fit-unique}
-use Rattle.rule.specs.declared.Setup.{Setup}
+use Rattle.rule.specs.declared.Task.{Task}
 use Rattle.rule.specs.declared.Solver.{Solver}
 use Rattle.frames.specs.Exchange.{Exchange}
 use Rattle.frames.specs.Unique.{respond-unique}
@@ -69,10 +69,12 @@ export-least-unique a b m n o w o' w' o'' w'' r s p q =
     let same = least-unique a b m n o w o' w' o'' w'' _ _ (p .call) (q .call) in
     (numbered p q (same .0), same .1, same .2)
 
-module _ (solver : Solver) (theta target : List Float) (rows n : ℕ) (setup : Setup) (cs w cs' w' cs'' w'' : List Float) (p p' p'' : List ℕ) where
-  pub export-fit-unique : (r s : ℕ) → Numbered fitted-number (Reported (FitCall solver theta target rows n setup cs cs' w w') p p') r → Numbered fitted-number (Reported (FitCall solver theta target rows n setup cs cs'' w w'') p p'') s → (r ≡ s) × (cs' ≡ cs'') × (w' ≡ w'') × (p' ≡ p'')
+module _ (task : Task) (theta target cs w cs' w' cs'' w'' : List Float) (p p' p'' : List ℕ) where
+  pub export-fit-unique : (r s : ℕ)
+      → Numbered fitted-number (Reported (FitCall task theta target cs cs' w w') p p') r
+      → Numbered fitted-number (Reported (FitCall task theta target cs cs'' w w'') p p'') s → (r ≡ s) × (cs' ≡ cs'') × (w' ≡ w'') × (p' ≡ p'')
   export-fit-unique r s h k =
-      let same = fit-unique solver theta target rows n setup cs w cs' w' cs'' w'' _ _ (h .call .fit) (k .call .fit) in
+      let same = fit-unique task theta target cs w cs' w' cs'' w'' _ _ (h .call .fit) (k .call .fit) in
       let answers = same .0 in
       (numbered h k answers, same .1, same .2, cc)
 

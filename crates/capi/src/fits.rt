@@ -1,24 +1,15 @@
 // Both fits, and the workspace that each needs.
 ghost use mathlib.Core.Path.{_≡_};
-ghost use Rattle.capi.specs.Numbered.{Numbered, Reported, reported, setup-of, workspace};
+ghost use Rattle.capi.specs.Numbered.{Numbered, Reported, reported, workspace};
+ghost use Rattle.rule.specs.Tasks.{setup-of, task-of};
 ghost use Rattle.rule.specs.Calls.{FitCall};
 ghost use Rattle.rule.specs.Codes.{fitted-number};
-use refusal::number;
 use rule::Fitted;
 use rule::Setup;
 use rule::Solver;
+use rule::fitted_number;
+use rule::inner::needed;
 use rule::stop_code;
-use strlsq::inner::needed;
-
-// A fit's answer by number: 0 for a report, else the refusal's.
-fn fitted_number(answer: Fitted) -> u64
-    ensures { λ r. ⌜ r ≡ fitted-number answer ⌝ }
-{
-    match answer {
-        Fitted::Fit(_) => 0,
-        Fitted::Refused(w) => number(w),
-    }
-}
 
 // Stop, refits and kept word of a fit into `report`; a refusal leaves it unchanged.
 fn put_report(answer: Fitted, report: &mut [u64; 3])
@@ -45,7 +36,7 @@ pub extern "C" fn dapmotar_strlsq(
     workspace: &mut [f64],
     report: &mut [u64; 3],
 ) -> u64
-    ensures { λ r. ⌜ Numbered fitted-number (Reported (FitCall Solver.Normal (now (theta .entry)) (now (target .entry)) «n_rows» «n_cols» (setup-of threshold lambda «max_iter») (now (coeffs .entry)) (now (coeffs .exit)) (now (workspace .entry)) (now (workspace .exit))) (now (report .entry)) (now (report .exit))) r ⌝ }
+    ensures { λ r. ⌜ Numbered fitted-number (Reported (FitCall (task-of Solver.Normal «n_rows» «n_cols» (setup-of threshold lambda «max_iter»)) (now (theta .entry)) (now (target .entry)) (now (coeffs .entry)) (now (coeffs .exit)) (now (workspace .entry)) (now (workspace .exit))) (now (report .entry)) (now (report .exit))) r ⌝ }
 {
     let setup = Setup {
         threshold: threshold,
@@ -71,7 +62,7 @@ pub extern "C" fn dapmotar_strlsq_qr(
     workspace: &mut [f64],
     report: &mut [u64; 3],
 ) -> u64
-    ensures { λ r. ⌜ Numbered fitted-number (Reported (FitCall Solver.Qr (now (theta .entry)) (now (target .entry)) «n_rows» «n_cols» (setup-of threshold lambda «max_iter») (now (coeffs .entry)) (now (coeffs .exit)) (now (workspace .entry)) (now (workspace .exit))) (now (report .entry)) (now (report .exit))) r ⌝ }
+    ensures { λ r. ⌜ Numbered fitted-number (Reported (FitCall (task-of Solver.Qr «n_rows» «n_cols» (setup-of threshold lambda «max_iter»)) (now (theta .entry)) (now (target .entry)) (now (coeffs .entry)) (now (coeffs .exit)) (now (workspace .entry)) (now (workspace .exit))) (now (report .entry)) (now (report .exit))) r ⌝ }
 {
     let setup = Setup {
         threshold: threshold,

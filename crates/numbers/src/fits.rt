@@ -9,14 +9,6 @@ use rule::Solver;
 
 const NAN: u64 = 0x7ff8_0000_0000_0000;
 
-// The number of a fit's refusal, 0 for none.
-fn fit_number(f: Fitted) -> u64 {
-    match f {
-        Fitted::Fit(_r) => 0,
-        Fitted::Refused(w) => refusal::number(w),
-    }
-}
-
 // Whether a fit reports so.
 fn reports(f: Fitted, stop: u64, refits: usize, kept: u64) -> bool {
     match f {
@@ -113,7 +105,7 @@ fn passes(solver: Solver, room: usize) -> bool
 fn refused(solver: Solver, n_cols: usize, max_iter: usize, room: usize) -> u64
     requires { ⌜ («n_cols» ≤ 65) × (room ≤ 8973) ⌝ }
 {
-    fit_number(fit_ones(solver, n_cols, max_iter, room))
+    rule::fitted_number(fit_ones(solver, n_cols, max_iter, room))
 }
 
 // The sizes: what both fits take, and one more. 64 columns of one row need 8,320 numbers, by QR 8,707.

@@ -1,5 +1,5 @@
 -- Only the values at the head of the coefficients go to terms. Assumes nothing.
-use mathlib.Core.Path.{_≡_, ap}
+use mathlib.Core.Path.{_≡_, ap, _∙_}
 use mathlib.Core.Logic.{⊎-elim}
 use mathlib.Core.Bool.{true, cond}
 use mathlib.Core.List.{List, _++_}
@@ -22,3 +22,7 @@ scatter-head n w vs rest h len = tab-cong n _ _ (λ j l. ⊎-elim (λ e. ap (λ 
   where
     held : (j : ℕ) → has w j ≡ true → at (vs ++ rest) (place w j) ≡ at vs (place w j)
     held j e = List·getD-append vs rest nan (place w j) (omega (arith, len, place-lt w n j h (passed e)))
+
+-- values at the head of the coefficients go to their terms
+pub scattered : {n w : ℕ} {x p : List Float} (vs rest : List Float) → x ≡ scatter (length (p ++ rest)) w (p ++ rest) → length (p ++ rest) ≡ n → p ≡ vs → w < 2 ^ n → length vs ≡ ones w → x ≡ scatter n w vs
+scattered {n = n} {w = w} vs rest put l e h few = put ∙ rw l (rw e (scatter-head n w vs rest h few))

@@ -1,50 +1,69 @@
--- A matrix and a right-hand side in one slice, and how large they are. Assumes nothing.
+-- A matrix and a right-hand side in one slice, lent as its head, and the values read behind the matrix. Assumes nothing.
 use mathlib.Core.Path.{_≡_, sym, ap, ap₂, _∙_}
-use mathlib.Core.List.{List}
-use Prim.Native.Nat.{ℕ, _+_, _-_, _*_, _^_, _≤_, _<_}
-use native.Mathlib.Nat.{mul-le-mul, sub-zero}
+use mathlib.Core.List.{List, _++_}
+use Prim.Native.Nat.{ℕ, _+_, _-_, _*_, _≤_}
+use native.Mathlib.Nat.{sub-zero}
 use native.Mathlib.Omega.{arith}
-use lib.Count.{ones, ones-le}
+use lib.Count.{ones}
 use lib.ListN.{length, take, drop, length-append, length-take, length-drop}
 use lib.Seq.{take-at, drop-at}
 use lib.Ieee.{Float}
-use Rattle.steps.specs.Num.{at, Entry, cell}
-use Rattle.steps.specs.Table.{tab, table, length-table}
+use Rattle.steps.specs.Num.{at, cell}
+use Rattle.steps.specs.Table.{tab, table, length-tab, length-table}
 use Rattle.steps.specs.Space.{part, withPart, length-with}
-use Rattle.steps.specs.Glue.{both-parts}
+use Rattle.steps.specs.Glue.{both-parts, read-behind}
 use Rattle.float64.specs.Root.{rootOf}
 use Rattle.places.specs.Columns.{columns}
 use Rattle.least.specs.Least.{least}
-use Rattle.rule.specs.Fits.{augmented, padded, by-least}
-use Rattle.refit.specs.Parts.{Sized}
+use Rattle.rule.specs.Fits.{augmented, padded, by-least, problem, problem-of, matrix-of, solves}
+use Rattle.rule.specs.declared.Task.{Task}
+use Rattle.rule.specs.declared.Solver.the-variants.{Qr}
+use Rattle.refit.specs.Parts.{Counted}
+use Rattle.refit.proofs.Large.{cells, both}
 
--- the sizes of a refit: at most 64 supported columns, and the area of the augmented matrix
-module _ (rows n w k : ℕ) {theta target : List Float} (few : k ≡ ones w) (within : w < 2 ^ n) (sizes : Sized theta target rows n) where
-  pub narrow : k ≤ 64
-  narrow = omega (arith, ones-le n w within, sizes .cols)
-
-  pub area : (rows + k) * k ≤ 266240
-  area = let tall : rows + k ≤ 4160 = omega (arith, narrow, sizes .few) in omega (arith, mul-le-mul tall narrow)
-
--- the length of a lent head, and of a lent part behind another
-pub length-head : {A : Type 0} (n : ℕ) (l : List A) → n ≤ length l → length (take (n - 0) l) ≡ n
+-- the length of a lent head
+pub length-head : (n : ℕ) (l : List Float) → n ≤ length l → length (take (n - 0) l) ≡ n
 length-head n l h = rw sub-zero (simp length-take (omega arith))
 
-pub length-behind : (k m : ℕ) (s a : List Float) → length s ≡ k + m → length a ≡ k → length (part k (k + m) (withPart 0 k a s)) ≡ m
-length-behind k m s a ls la = let e = length-with 0 k a s (omega arith) (omega arith) (la ∙ sym (sub-zero k)) in simp (length-take, length-drop) (omega arith)
+-- a is made as the matrix at the head of a slice of just this room, b as the right-hand side behind it
+module _ {task : Task} {theta target : List Float} {w k : ℕ} (s : Counted task theta target w k) (ws : List Float) (l : length ws ≡ both task k) {a : List Float} (is-a : a ≡ table (task .rows + ones w) (ones w) (augmented (task .rows) (rootOf (task .setup .lambda)) (columns (task .cols) w (cell (task .cols) theta)))) where
+  length-a : length a ≡ cells task k
+  length-a = rw (s .count, is-a) (length-table _ _ _)
 
-pub length-both : (k m : ℕ) (s a b : List Float) → length s ≡ k + m → length a ≡ k → length b ≡ m → length (withPart k (k + m) b (withPart 0 k a s)) ≡ k + m
-length-both k m s a b ls la lb = ap length (both-parts k m s a b ls la) ∙ length-append a b ∙ (let e : length a + length b ≡ k + m = omega arith in e)
+  pub room-behind : length (part (cells task k) (both task k) (withPart 0 (cells task k) a ws)) ≡ length target + k
+  room-behind =
+      let e = length-with 0 (cells task k) a ws (omega arith) (omega arith) (length-a ∙ sym (sub-zero _)) in
+      simp (length-take, length-drop) (omega (arith, s .sized .target-long))
 
--- the augmented matrix by its length
-pub length-made : (rows w k : ℕ) (f : Entry) (a : List Float) → k ≡ ones w → a ≡ table (rows + ones w) (ones w) f → length a ≡ (rows + k) * k
-length-made rows w k f a few is-a = rw (few, is-a) (length-table _ _ _)
+  module _ {b : List Float} (is-b : b ≡ tab (length target + k) (padded (length target) (at target))) where
+    joined : withPart (cells task k) (both task k) b (withPart 0 (cells task k) a ws) ≡ a ++ b
+    joined = both-parts (cells task k) (task .rows + k) ws a b l length-a
 
--- the augmented matrix and the padded target in one slice: the solve of what stands there is by least squares
-pub qr-is : (rows n w k : ℕ) (lambda : Float) (theta target ws a b : List Float) → k ≡ ones w → length target ≡ rows → length ws ≡ (rows + k) * k + (rows + k) → a ≡ table (rows + ones w) (ones w) (augmented rows (rootOf lambda) (columns n w (cell n theta))) → b ≡ tab (length target + k) (padded (length target) (at target)) → let e = (rows + k) * k in let s = withPart e (e + (rows + k)) b (withPart 0 e a ws) in least (rows + k) k (take e s) (drop e s) ≡ by-least lambda (at target) rows k (columns n w (cell n theta))
-unfolding by-least
-qr-is rows n w k lambda theta target ws a b few right ls is-a is-b =
-    let e = (rows + k) * k in
-    let la = length-made rows w k _ a few is-a in
-    let both = both-parts e (rows + k) ws a b ls la in
-    ap₂ (λ (x y : List Float). least (rows + k) k x y) (ap (take e) both ∙ take-at a b e la ∙ is-a ∙ rw few) (ap (drop e) both ∙ drop-at a b e la ∙ is-b ∙ rw right)
+    pub length-both : length (withPart (cells task k) (both task k) b (withPart 0 (cells task k) a ws)) ≡ both task k
+    length-both =
+        let e : length b ≡ task .rows + k = ap length is-b ∙ length-tab _ _ ∙ rw (s .sized .target-long) in
+        ap length joined ∙ length-append a b ∙ (let z : length a + length b ≡ both task k = omega (arith, length-a) in z)
+
+    -- the solve of what stands there is by least squares
+    pub least-is : task .solver ≡ Qr → let x = withPart (cells task k) (both task k) b (withPart 0 (cells task k) a ws) in least (task .rows + k) k (take (cells task k) x) (drop (cells task k) x) ≡ problem-of task theta target .solve w
+    unfolding problem matrix-of solves by-least
+    least-is is =
+        rw is
+        (ap₂ (λ (x y : List Float). least (task .rows + k) k x y)
+        (ap (take (cells task k)) joined ∙ take-at a b _ length-a ∙ is-a)
+        (ap (drop (cells task k)) joined ∙ drop-at a b _ length-a ∙ is-b)
+        ∙ rw (s .sized .target-long, s .count))
+
+-- x is what a solve left in the head of a workspace: the k values stand in it behind the matrix
+module _ (task : Task) (k : ℕ) (ws x : List Float) (fits : both task k ≤ length ws) (kept : length x ≡ length (take (both task k - 0) ws)) where
+  length-x : length x ≡ both task k
+  length-x = kept ∙ length-head _ ws fits
+
+  pub space-kept : length (withPart 0 (both task k) x ws) ≡ length ws
+  space-kept = length-with 0 _ x ws (omega arith) fits (length-x ∙ sym (sub-zero _))
+
+  pub read : part (cells task k) (cells task k + k) (withPart 0 (both task k) x ws) ≡ take k (drop (cells task k) x)
+  read = read-behind (cells task k) (task .rows + k) k ws x length-x (omega arith)
+
+  pub read-long : length (part (cells task k) (cells task k + k) (withPart 0 (both task k) x ws)) ≡ k
+  read-long = ap length read ∙ simp (length-take, length-drop) (omega (arith, length-x))

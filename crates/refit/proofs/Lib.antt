@@ -1,5 +1,5 @@
 -- Laws that the proofs share.
 pub mod Head
+pub mod Large
 pub mod Ends
 pub mod Joined
-pub mod Placing

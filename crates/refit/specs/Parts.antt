@@ -1,24 +1,21 @@
 -- What a solve over a support promises, in the words of the rule. Assumes nothing.
 use mathlib.Core.Path.{_≡_}
 use mathlib.Core.List.{List}
-use Prim.Native.Nat.{ℕ, _*_, _≤_}
+use Prim.Native.Nat.{ℕ, _^_, _<_}
 use lib.Count.{ones}
-use lib.ListN.{length}
 use lib.Ieee.{Float}
-use Rattle.steps.specs.Num.{at, cell}
 use Rattle.refusal.specs.Answers.{Solution, solved, refused, solution, told}
 use Rattle.refusal.specs.declared.Solved.{Solved}
-use Rattle.places.specs.Columns.{columns}
 use Rattle.rule.specs.Rule.{scatter}
-use Rattle.rule.specs.Fits.{solves}
-use Rattle.rule.specs.declared.Solver.{Solver}
+use Rattle.rule.specs.Fits.{problem-of}
+use Rattle.rule.specs.Sizes.{Sized}
+use Rattle.rule.specs.declared.Task.{Task}
 
--- the sizes that the public call has tested: theta and target of rows by n, within the limits
-pub record Sized (theta target : List Float) (rows n : ℕ) : Type 0 where
-  pub cols : n ≤ 64
-  pub few : rows ≤ 4096
-  pub matrix : length theta ≡ rows * n
-  pub right : length target ≡ rows
+-- the support w names k columns of theta, which is as the task's sizes say
+pub record Counted (task : Task) (theta target : List Float) (w k : ℕ) : Type 0 where
+  pub sized : Sized task theta target
+  pub within : w < 2 ^ task .cols
+  pub count : k ≡ ones w
 
 -- the coefficients after a solve over w: each value at its term
 abbrev pub placed : ℕ → ℕ → Solution → Solution
@@ -29,6 +26,6 @@ placed n w (refused c) = refused c
 abbrev pub gave : Solved → List Float → Solution
 gave r cs = solution (told r cs)
 
--- the solve of a support's columns
-unfoldable pub over-support : Solver → Float → List Float → List Float → ℕ → ℕ → ℕ → Solution
-over-support solver lambda theta target rows n w = solves solver lambda (at target) rows (ones w) (columns n w (cell n theta))
+-- the solve of a support's columns, its values put at their terms
+abbrev pub OverSupport : Task → List Float → List Float → ℕ → Solved → List Float → Type 0
+OverSupport task theta target w r cs = gave r cs ≡ placed (task .cols) w (problem-of task theta target .solve w)

@@ -2,36 +2,31 @@
 pub mod by_least;
 pub mod by_normal;
 
-ghost use mathlib.Core.Path.{_≡_};
 ghost use Prim.Native.Nat.{_^_, _<_};
-ghost use lib.ListN.{length};
-ghost use Rattle.rule.specs.Calls.{fit-need};
-ghost use Rattle.refit.specs.Parts.{Sized, gave, over-support, placed};
+ghost use Rattle.rule.specs.Sizes.{Ready};
+ghost use Rattle.refit.specs.Parts.{OverSupport};
 use crate::inner::by_least::solve_qr;
 use crate::inner::by_normal::solve_normal;
 use refusal::Solved;
-use rule::Setup;
 use rule::Solver;
+use rule::Task;
 use support::Support;
 
 // The solve over a support's columns, its values put at their terms.
 pub fn solve_terms(
-    solver: Solver,
+    task: Task,
     theta: &[f64],
-    n_rows: usize,
-    n_cols: usize,
     target: &[f64],
-    setup: Setup,
     support: Support,
     coeffs: &mut [f64],
     ws: &mut [f64],
 ) -> Solved
-    requires { ⌜ (Sized (now theta) (now target) «n_rows» «n_cols») × (length (now coeffs) ≡ «n_cols») × (support .0 < 2 ^ «n_cols») × (length (now ws) ≡ fit-need solver «n_rows» «n_cols») ⌝ }
-    ensures { λ r. ⌜ gave r (now (coeffs .exit)) ≡ placed «n_cols» (support .0) (over-support solver (setup .lambda) (now (theta .entry)) (now (target .entry)) «n_rows» «n_cols» (support .0)) ⌝ }
+    requires { ⌜ Ready task (now theta) (now target) (now coeffs) (now ws) × (support .0 < 2 ^ task .cols) ⌝ }
+    ensures { λ r. ⌜ OverSupport task (now (theta .entry)) (now (target .entry)) (support .0) r (now (coeffs .exit)) ⌝ }
 {
-    let lambda = setup.lambda;
+    let solver = task.solver;
     match solver {
-        Solver::Normal => solve_normal(theta, n_rows, n_cols, target, lambda, support, coeffs, ws),
-        Solver::Qr => solve_qr(theta, n_rows, n_cols, target, lambda, support, coeffs, ws),
+        Solver::Normal => solve_normal(task, theta, target, support, coeffs, ws),
+        Solver::Qr => solve_qr(task, theta, target, support, coeffs, ws),
     }
 }

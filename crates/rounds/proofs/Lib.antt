@@ -1,3 +1,3 @@
 -- Laws that the proofs of the rounds share. Assumes nothing.
 pub mod Turns
-pub mod Rounds
+pub mod Look

@@ -50,9 +50,9 @@ module _ (P : Problem) where
     pub same : support P cs ≡ latest ws
 
   -- while a fit goes on: its coefficients are those of the last refit, if there was one
-  Placed : List Float → List ℕ → Type 0
-  Placed cs [] = Unit {0}
-  Placed cs (w ∷ ws) = Refitted cs w
+  FromLast : List Float → List ℕ → Type 0
+  FromLast cs [] = Unit {0}
+  FromLast cs (w ∷ ws) = Refitted cs w
 
   -- once it is done, by its stop
   Ending : Stop → List Float → List ℕ → Type 0
@@ -65,17 +65,17 @@ module _ (P : Problem) where
 
   -- so after each round
   Sound : State → Type 0
-  Sound (going cs ws) = Placed cs ws
+  Sound (going cs ws) = FromLast cs ws
   Sound (done t cs ws) = Ending t cs ws
 
   -- a look that finds the last refitted support finds one that was refitted: it has some term
-  settles : (cs : List Float) (ws : List ℕ) → support P cs ≢ 0 → support P cs ≡ latest ws → Placed cs ws → Closed cs ws
-  unfolding Placed
+  settles : (cs : List Float) (ws : List ℕ) → support P cs ≢ 0 → support P cs ≡ latest ws → FromLast cs ws → Closed cs ws
+  unfolding FromLast
   settles cs [] z e p = absurd (z e)
   settles cs (w ∷ ws) z e p = record { refitted = p; same = e }
 
   sound : Course P (λ r. Sound)
-  unfolding Sound Ending Placed first refit
+  unfolding Sound Ending FromLast first refit
   sound = record {
     nothing = λ e. refl;
     refused-first = λ e c q. refl;

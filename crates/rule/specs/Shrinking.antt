@@ -25,17 +25,17 @@ module _ (P : Problem) where
   Good (w ∷ ws) = (w < 2 ^ P .cols) × (0 < count (has w) (P .cols)) × (count (has w) (P .cols) + length ws ≤ P .cols) × Falling (w ∷ ws)
 
   -- the next support lies within the last refitted one
-  Within : List Float → List ℕ → Type 0
-  Within cs [] = Unit {0}
-  Within cs (w ∷ ws) = Sub (support P cs) w
+  Inside : List Float → List ℕ → Type 0
+  Inside cs [] = Unit {0}
+  Inside cs (w ∷ ws) = Sub (support P cs) w
 
   -- after each round
   Falls : State → Type 0
-  Falls (going cs ws) = Good ws × Within cs ws
+  Falls (going cs ws) = Good ws × Inside cs ws
   Falls (done t cs ws) = Good ws
 
-  pushed : (cs : List Float) (ws : List ℕ) → support P cs ≢ 0 → support P cs ≢ latest ws → Good ws → Within cs ws → Good (support P cs ∷ ws)
-  unfolding Good Within support
+  pushed : (cs : List Float) (ws : List ℕ) → support P cs ≢ 0 → support P cs ≢ latest ws → Good ws → Inside cs ws → Good (support P cs ∷ ws)
+  unfolding Good Inside support
   pushed cs ws z l g i = next ws l g i
     where
       n : ℕ
@@ -50,7 +50,7 @@ module _ (P : Problem) where
       p : 0 < count (has w) n
       p = count-pos (has w) n (λ e. z (sym (word-has w n b) ∙ e))
 
-      next : (ws : List ℕ) → w ≢ latest ws → Good ws → Within cs ws → Good (w ∷ ws)
+      next : (ws : List ℕ) → w ≢ latest ws → Good ws → Inside cs ws → Good (w ∷ ws)
       next [] l g i = (b, p, omega (arith, count-le (has w) n), (tt, tt))
       next (v ∷ vs) l g i =
           let s : Strict w v = record { within = i; other = l } in
@@ -73,7 +73,7 @@ module _ (P : Problem) where
         in-w false x h k = h k
 
     falls : Course P (λ r. Falls)
-    unfolding Falls Good Within first refit
+    unfolding Falls Good Inside first refit
     falls = record {
       nothing = λ e. tt;
       refused-first = λ e c q. tt;

@@ -1,7 +1,7 @@
 -- A solve gives one value a column, each made by an operation, and over the full support it is the solve of all columns. Assumes nothing.
-use mathlib.Core.Path.{_≡_, ap, ap₂, _∙_}
+use mathlib.Core.Path.{_≡_, refl, sym, ap, ap₂, _∙_}
 use mathlib.Core.Logic.{_⊎_, inl, inr}
-use mathlib.Core.Bool.{cond}
+use mathlib.Core.Bool.{true, cond}
 use mathlib.Core.List.{List}
 use Prim.Native.Nat.{ℕ, _+_, _≤_, _<_}
 use native.Mathlib.Omega.{arith}
@@ -9,13 +9,14 @@ use borrow.Author.Tests.{lt-ltb, le-ltb}
 use lib.Count.{ones}
 use lib.Dec.{eqb, ltb}
 use lib.ListN.{length}
-use lib.Ieee.{Float}
-use Rattle.steps.specs.Num.{+zero, Entry}
+use lib.Ieee.{Float, nan}
+use Rattle.steps.specs.Num.{+zero, at, Entry}
 use Rattle.steps.specs.Cond.{either, lt-or-ge}
-use Rattle.steps.specs.Table.{tab, tab-cong, table-cong}
+use Rattle.steps.specs.Table.{tab, is-tab, tab-cong, table-cong}
 use Rattle.float64.specs.Root.{rootOf}
-use Rattle.support.specs.Word.{full}
-use Rattle.support.specs.CountLaws.{ones-full}
+use Rattle.support.specs.Word.{has, place, full}
+use Rattle.support.specs.SupportLaws.{has-full}
+use Rattle.support.specs.CountLaws.{ones-full, place-is, count-full}
 use Rattle.refusal.specs.Answers.{solved, solution}
 use Rattle.places.specs.Columns.{columns}
 use Rattle.places.specs.ColumnLaws.{columns-full}
@@ -25,6 +26,7 @@ use Rattle.normal.specs.Normal.{normal}
 use Rattle.least.specs.Least.{least}
 use Rattle.rule.specs.declared.Solver.{Solver}
 use Rattle.rule.specs.declared.Solver.the-variants.{Normal, Qr}
+use Rattle.rule.specs.Rule.{scatter}
 use Rattle.rule.specs.Fits.{by-sums, by-normal, augmented, padded, by-least, solves}
 use Rattle.rule.specs.Rounded.{Rounded, Column, anything, sum-made, tab-column}
 use Rattle.rule.specs.RightSides.{normal-column, least-column}
@@ -72,3 +74,14 @@ pub solves-full : (solver : Solver) (lambda : Float) (t : ℕ → Float) (rows n
 solves-full solver lambda t rows n e h =
     ap (λ (c : ℕ). solves solver lambda t rows c (columns n (full n) e)) (ones-full n h)
     ∙ solves-cong rows n (columns n (full n) e) e (λ i p k l. columns-full n e i p h l) solver lambda t
+
+-- over the full support each value is at its own place
+pub scatter-full : (n : ℕ) (vs : List Float) → n ≤ 64 → length vs ≡ n → scatter n (full n) vs ≡ vs
+unfolding scatter
+scatter-full n vs h l = tab-cong n _ (at vs) own ∙ sym (is-tab n (at vs) vs nan l (λ i k. refl))
+  where
+    own : (j : ℕ) → j < n → cond (has (full n) j) (at vs (place (full n) j)) +zero ≡ at vs j
+    own j k =
+        let in-it : has (full n) j ≡ true = has-full n j (omega arith) ∙ lt-ltb j n k in
+        let there : place (full n) j ≡ j = place-is (full n) j ∙ count-full n j h (omega arith) in
+        rw (in-it, there)

@@ -4,13 +4,14 @@ use mathlib.Core.Path.{_≡_, refl}
 use mathlib.Core.List.{List, [], _∷_}
 use lib.Ieee.{Float, nan}
 use lib.Count.{ones}
-use Rattle.steps.specs.Num.{lit, +zero, one, at, cell}
+use Rattle.steps.specs.Num.{lit, +zero, one}
 use Rattle.support.specs.Word as W
 use Rattle.places.specs.Columns as C
 use Rattle.sums.specs.Products as P
 use Rattle.rule.specs.Rule as R
 use Rattle.rule.specs.Rule.{Fit}
 use Rattle.rule.specs.Fits as F
+use Rattle.rule.specs.Tasks.{setup-of, task-of}
 use Rattle.rule.specs.declared.Setup.{Setup}
 use Rattle.rule.specs.declared.Solver.{Solver}
 use Rattle.rule.specs.declared.Solver.the-variants.{Normal, Qr}
@@ -23,18 +24,15 @@ unfoldable pub fits : Unit {0}
 unfolding opened ones W.has W.count W.word W.terms W.place W.term
     C.columns P.gram P.moment P.ridge P.damped P.jtj-matrix P.jtr-column
     R.support R.scatter R.refit R.look R.round R.first R.start R.rounds R.pruned R.reported R.finish R.fit
-    F.keeps F.clears F.by-sums F.by-normal F.augmented F.padded F.by-least F.solves F.problem F.fit-by
+    F.keeps F.clears F.by-sums F.by-normal F.augmented F.padded F.by-least F.solves F.problem F.fit-by F.matrix-of
 fits = tt
 
 abbrev pub half : Float
 half = lit 0x3fe0000000000000
 
--- a fit of a matrix that is stored by rows
-abbrev pub of : Solver → List Float → List Float → ℕ → ℕ → Setup → Fit
-of solver theta target rows n s = F.fit-by solver (cell n theta) (at target) rows n s
-
-abbrev pub setup : Float → Float → ℕ → Setup
-setup t l m = record { threshold = t; lambda = l; «max_iter» = m }
+-- a fit by a solver, of theta and target, with so many rows and columns, and a setup
+abbrev pub fit-case : Solver → List Float → List Float → ℕ → ℕ → Setup → Fit
+fit-case solver theta target rows n s = F.fit-of (task-of solver rows n s) theta target
 
 abbrev pub gives : List Float → Stop → ℕ → ℕ → Fit
 gives cs t r k = record { coeffs = cs; stop = t; refits = r; kept = k }
@@ -46,25 +44,25 @@ theta1 = one ∷ +zero ∷ +zero ∷ one ∷ []
 abbrev pub target1 : List Float
 target1 = three ∷ lit 0x3fd0000000000000 ∷ []
 
-pub F8-none : of Normal (one ∷ []) (nan ∷ []) 1 1 (setup half +zero 0) ≡ gives (nan ∷ []) OutOfRounds 0 0
+pub F8-none : fit-case Normal (one ∷ []) (nan ∷ []) 1 1 (setup-of half +zero 0) ≡ gives (nan ∷ []) OutOfRounds 0 0
 unfolding fits
 F8-none = refl
 
-pub F8-one : of Normal (one ∷ []) (nan ∷ []) 1 1 (setup half +zero 1) ≡ gives (+zero ∷ []) Empty 0 0
+pub F8-one : fit-case Normal (one ∷ []) (nan ∷ []) 1 1 (setup-of half +zero 1) ≡ gives (+zero ∷ []) Empty 0 0
 unfolding fits
 F8-one = refl
 
 -- F1 by the second fit
-pub F1-qr : of Qr theta1 target1 2 2 (setup half +zero 10) ≡ gives (three ∷ +zero ∷ []) Settled 1 1
+pub F1-qr : fit-case Qr theta1 target1 2 2 (setup-of half +zero 10) ≡ gives (three ∷ +zero ∷ []) Settled 1 1
 unfolding fits
 F1-qr = refl
 
 -- G1: the last column alone is kept: its value goes back to its term, not to its reduced place
-pub G1 : of Normal theta1 (lit 0x3fd0000000000000 ∷ three ∷ []) 2 2 (setup half +zero 10) ≡ gives (+zero ∷ three ∷ []) Settled 1 2
+pub G1 : fit-case Normal theta1 (lit 0x3fd0000000000000 ∷ three ∷ []) 2 2 (setup-of half +zero 10) ≡ gives (+zero ∷ three ∷ []) Settled 1 2
 unfolding fits
 G1 = refl
 
 -- G2: no columns, and no rows: zeros, and the kept word by its rule at a threshold of zero
-pub G2 : of Normal [] [] 0 2 (setup +zero +zero 3) ≡ gives (+zero ∷ +zero ∷ []) NoData 0 3
+pub G2 : fit-case Normal [] [] 0 2 (setup-of +zero +zero 3) ≡ gives (+zero ∷ +zero ∷ []) NoData 0 3
 unfolding fits
 G2 = refl

@@ -6,10 +6,11 @@ use Rattle.steps.specs.Loops.{going}
 use Rattle.float64.specs.Root.{rootOf}
 use Rattle.householder.specs.Qr.{after, betas}
 use Rattle.lu.specs.Lu.{lu}
+use Rattle.rule.specs.Tasks.{setup-of}
 use Rattle.rule.specs.declared.Solver.the-variants.{Normal}
 use Rattle.rule.specs.declared.Stop.the-variants.{FirstRefused, Empty, Settled, OutOfRounds}
 use Rattle.table.specs.Solvers.{three, four, five}
-use Rattle.table.specs.Fits.{fits, half, of, setup, gives, theta1, target1}
+use Rattle.table.specs.Fits.{fits, half, fit-case, gives, theta1, target1}
 
 pub record Marked : Type 0 where
   -- root of 4: 2
@@ -23,19 +24,19 @@ pub record Marked : Type 0 where
   -- root of the largest finite number
   pub R5 : rootOf (lit 0x7fefffffffffffff) ≡ lit 0x5fefffffffffffff
   -- [3, 0], Settled, 1 refit, word 1
-  pub F1 : of Normal theta1 target1 2 2 (setup half +zero 10) ≡ gives (three ∷ +zero ∷ []) Settled 1 1
+  pub F1 : fit-case Normal theta1 target1 2 2 (setup-of half +zero 10) ≡ gives (three ∷ +zero ∷ []) Settled 1 1
   -- F1, max_iter 0: OutOfRounds, 0, word 1
-  pub F2 : of Normal theta1 target1 2 2 (setup half +zero 0) ≡ gives (three ∷ +zero ∷ []) OutOfRounds 0 1
+  pub F2 : fit-case Normal theta1 target1 2 2 (setup-of half +zero 0) ≡ gives (three ∷ +zero ∷ []) OutOfRounds 0 1
   -- F1, max_iter 1: OutOfRounds, 1, word 1
-  pub F3 : of Normal theta1 target1 2 2 (setup half +zero 1) ≡ gives (three ∷ +zero ∷ []) OutOfRounds 1 1
+  pub F3 : fit-case Normal theta1 target1 2 2 (setup-of half +zero 1) ≡ gives (three ∷ +zero ∷ []) OutOfRounds 1 1
   -- F1, threshold 4: zeros, Empty, 0, word 0
-  pub F4 : of Normal theta1 target1 2 2 (setup four +zero 10) ≡ gives (+zero ∷ +zero ∷ []) Empty 0 0
+  pub F4 : fit-case Normal theta1 target1 2 2 (setup-of four +zero 10) ≡ gives (+zero ∷ +zero ∷ []) Empty 0 0
   -- 1×1: theta 0, target 1, lambda 0: zero, FirstRefused, 0, word 0
-  pub F5 : of Normal (+zero ∷ []) (one ∷ []) 1 1 (setup half +zero 1) ≡ gives (+zero ∷ []) FirstRefused 0 0
+  pub F5 : fit-case Normal (+zero ∷ []) (one ∷ []) 1 1 (setup-of half +zero 1) ≡ gives (+zero ∷ []) FirstRefused 0 0
   -- 1×1: theta 1, target 0.5, at the threshold: 0.5, Settled, 1
-  pub F6 : of Normal (one ∷ []) (half ∷ []) 1 1 (setup half +zero 2) ≡ gives (half ∷ []) Settled 1 1
+  pub F6 : fit-case Normal (one ∷ []) (half ∷ []) 1 1 (setup-of half +zero 2) ≡ gives (half ∷ []) Settled 1 1
   -- 1×1: theta 0, target 1, lambda -1, threshold 0: -0.0, OutOfRounds, word 1
-  pub F7 : of Normal (+zero ∷ []) (one ∷ []) 1 1 (setup +zero -one 0) ≡ gives (-zero ∷ []) OutOfRounds 0 1
+  pub F7 : fit-case Normal (+zero ∷ []) (one ∷ []) 1 1 (setup-of +zero -one 0) ≡ gives (-zero ∷ []) OutOfRounds 0 1
   -- LU of rows (1,2), (-1,3), b (1,4): matrix (1,2), (-1,5), x (-1,1)
   pub L1 : lu 2 (one ∷ two ∷ -one ∷ three ∷ []) (one ∷ four ∷ []) ≡ going ((one ∷ two ∷ -one ∷ five ∷ []), (-one ∷ one ∷ []))
   -- `qr` of the column (-0.0, 1): data (-1, 1)

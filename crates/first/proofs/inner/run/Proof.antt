@@ -1,45 +1,72 @@
 -- `run` meets its contract: no data, a first solve that is refused, or the rounds after it.
-use mathlib.Core.Path.{_∙_}
-use native.Mathlib.Omega.{arith}
+use mathlib.Core.Path.{_≡_, _∙_}
+use mathlib.Core.List.{List}
+use mathlib.Core.Logic.{_≢_}
 use borrow.Author.Needs.{needs}
+use lib.ListN.{length}
+use lib.Ieee.{Float}
 use denote.Ref.{now}
 use Rattle.support.specs.SupportLaws.{full-lt}
+use Rattle.rule.specs.Sizes.{still}
 use Rattle.rounds.specs.Ended.{zeroed}
 use Rattle.first.proofs.First.{none-left, no-rows, no-cols, first-refused, first-goes}
 use Rattle.first.proofs.inner.run.Statement.{statement}
 use Rattle.first.proofs.inner.run.Tie as tie
 
+-- after both tests: some rows and some columns
+module _ (c : tie.Else2) where
+  abbrev start : tie.Start
+  start = c .before .before .before .before .before .before .before .before
+
+  some-rows : start .args .task .rows ≢ 0
+  some-rows = c .before .before .if1 .left
+
+  some-cols : start .args .task .cols ≢ 0
+  some-cols = c .if2 .left
+
+-- after the solve over all columns
+module _ (c : tie.After-solve-terms) where
+  abbrev all : tie.After-full
+  all = c .before .before .before
+
+  abbrev begin : tie.Start
+  begin = start (all .before)
+
+  abbrev new-coeffs : List Float
+  new-coeffs = c .solve-terms .last .1 .1 .1 .1 .0
+
+  new-long : length new-coeffs ≡ begin .args .task .cols
+  new-long = c .solve-terms .kept .1 .1 .1 .1 .0 ∙ begin .pre .coeffs-long
+
 clear-requires : tie.Need-clear-requires
-clear-requires c κs = omega (arith, c .before .before .before .before .before .before .pre .1)
+clear-requires c κs = search needs
 
 same-length : tie.Need-same-length
-same-length c = c .before .before .clear .kept .0
+same-length c = search needs
 
 returns : tie.Need-returns
 returns c =
     let at-clear = c .before .before in
     let at-if1 = at-clear .before .before in
-    let start = at-if1 .before .before .before .before .before in
-    let a = start .args in
-    no-rows (a .solver) (a .setup) (now (a .theta)) (now (a .target)) (a .n-rows) (a .n-cols) (a .setup .«max_iter») (at-if1 .if1 .taken)
-    (zeroed (a .n-cols) (now (a .coeffs)) (start .pre .1) (at-clear .clear .ensures))
+    let begin = at-if1 .before .before .before .before .before .before in
+    let a = begin .args in
+    no-rows (a .task) (now (a .theta)) (now (a .target)) (at-if1 .if1 .taken) (zeroed (a .task .cols) (now (a .coeffs)) (begin .pre .coeffs-long) (at-clear .clear .ensures))
 
 returns-2 : tie.Need-returns-2
 returns-2 c =
-    let at-if1 = c .before in
-    let start = at-if1 .before .before .before .before .before in
-    let a = start .args in
-    no-cols (a .solver) (a .setup) (now (a .theta)) (now (a .target)) (a .n-rows) (a .n-cols) (a .setup .«max_iter») (at-if1 .if1 .left) (c .if2 .taken)
-    (none-left (a .n-cols) (now (a .coeffs)) (c .if2 .taken) (start .pre .1))
+    let at-if1 = c .before .before in
+    let begin = at-if1 .before .before .before .before .before .before in
+    let a = begin .args in
+    no-cols (a .task) (now (a .theta)) (now (a .target)) (at-if1 .if1 .left) (c .if2 .taken) (none-left (a .task .cols) (now (a .coeffs)) (c .if2 .taken) (begin .pre .coeffs-long))
 
 full-requires : tie.Need-full-requires
 full-requires c κs = search needs
 
 solve-terms-requires : tie.Need-solve-terms-requires
 solve-terms-requires c κs =
-    let at-full = c .before .before in
-    let start = at-full .before .before .before .before .before .before .before in
-    (start .pre .0, start .pre .1, rw (at-full .full .ensures) (full-lt (start .args .n-cols) (start .pre .0 .cols)), start .pre .2)
+    let whole = c .before .before in
+    let begin = start (whole .before) in
+    (begin .pre, rw (whole .full .ensures) (full-lt (begin .args .task .cols) (begin .pre .sized .limited .few-cols)))
 
 enum-told : tie.Need-enum-told
 enum-told c = search needs
@@ -48,87 +75,44 @@ enum-told-2 : tie.Need-enum-told-2
 enum-told-2 c = search needs
 
 clear-requires-2 : tie.Need-clear-requires-2
-clear-requires-2 c κs =
-    let at-solve-terms = c .before .before .before .before .before .before .before in
-    let start = at-solve-terms .before .before .before .before .before .before .before .before .before .before in
-    omega (arith, at-solve-terms .solve-terms .kept .1 .1 .1 .1 .1 .1 .1 .0, start .pre .1)
+clear-requires-2 c κs = search needs
 
 same-length-2 : tie.Need-same-length-2
-same-length-2 c =
-    let at-clear2 = c .before .before in
-    let at-solve-terms = at-clear2 .before .before .before .before .before .before .before .before in
-    at-clear2 .clear2 .kept .0 ∙ at-solve-terms .solve-terms .kept .1 .1 .1 .1 .1 .1 .1 .0
+same-length-2 c = search needs
 
 same-length-3 : tie.Need-same-length-3
-same-length-3 c = c .before .before .before .before .before .before .before .before .before .before .solve-terms .kept .1 .1 .1 .1 .1 .1 .1 .1 .0
+same-length-3 c = search needs
 
 returns-3 : tie.Need-returns-3
 returns-3 c =
-    let at-clear2 = c .before .before in
-    let at-enum-told2 = at-clear2 .before .before in
-    let at-solve-terms = at-enum-told2 .before .before .before .before .before .before in
-    let at-full = at-solve-terms .before .before .before in
-    let at-if2 = at-full .before in
-    let at-if1 = at-if2 .before in
-    let start = at-if1 .before .before .before .before .before in
-    let a = start .args in
-    let told = at-enum-told2 .enum-told2 .given in
-    let solve = at-solve-terms .solve-terms in
-    first-refused (a .solver) (a .setup) (now (a .theta)) (now (a .target)) (a .n-rows) (a .n-cols) (at-if1 .if1 .left) (at-if2 .if2 .left) (start .pre .0 .cols)
-    (at-full .full .result .0) (at-full .full .ensures) (solve .result) (told .0 .0) (a .setup .«max_iter») _ (solve .last .1 .1 .1 .1 .1 .1 .1 .0) (told .1) (solve .ensures)
-    (solve .kept .1 .1 .1 .1 .1 .1 .1 .0 ∙ start .pre .1) (at-clear2 .clear2 .ensures)
+    let at-clear = c .before .before in
+    let told = at-clear .before .before in
+    let s = told .before .before .before .before .before .before in
+    let a = begin s .args in
+    first-refused (a .task) (now (a .theta)) (now (a .target)) (some-rows (all s .before)) (some-cols (all s .before)) (begin s .pre .sized .limited .few-cols)
+    (all s .full .result .0) (all s .full .ensures) (s .solve-terms .result) (new-coeffs s) (s .solve-terms .ensures)
+    (told .enum-told2 .given .0 .0) _ (told .enum-told2 .given .1) (new-long s) (at-clear .clear2 .ensures)
 
 rounds-requires : tie.Need-rounds-requires
 rounds-requires c κs =
-    let at-enum-told = c .before .before in
-    let at-solve-terms = at-enum-told .before .before .before .before .before .before in
-    let at-full = at-solve-terms .before .before .before in
-    let at-if2 = at-full .before in
-    let at-if1 = at-if2 .before in
-    let start = at-if1 .before .before .before .before .before in
-    let a = start .args in
-    let told = at-enum-told .enum-told .given in
-    let solve = at-solve-terms .solve-terms in (
-      start .pre .0,
-      solve .kept .1 .1 .1 .1 .1 .1 .1 .0 ∙ start .pre .1,
-      solve .kept .1 .1 .1 .1 .1 .1 .1 .1 .0 ∙ start .pre .2,
-      start .pre .3,
-      first-goes (a .solver) (a .setup) (now (a .theta)) (now (a .target)) (a .n-rows) (a .n-cols) (at-if1 .if1 .left) (at-if2 .if2 .left) (start .pre .0 .cols)
-          (at-full .full .result .0) (at-full .full .ensures) (solve .result) (solve .last .1 .1 .1 .1 .1 .1 .1 .0) (told .1) (solve .ensures),
+    let told = c .before .before in
+    let s = told .before .before .before .before .before .before in
+    let a = begin s .args in (
+      still (begin s .pre) (s .solve-terms .kept .1 .1 .1 .1 .0) (s .solve-terms .kept .1 .1 .1 .1 .1 .0),
+      first-goes (a .task) (now (a .theta)) (now (a .target)) (some-rows (all s .before)) (some-cols (all s .before)) (begin s .pre .sized .limited .few-cols)
+          (all s .full .result .0) (all s .full .ensures) (s .solve-terms .result) (new-coeffs s) (s .solve-terms .ensures) (told .enum-told .given .1),
     )
 
 same-length-4 : tie.Need-same-length-4
-same-length-4 c =
-    let at-rounds = c .before .before .before .before in
-    let at-solve-terms = at-rounds .before .before .before .before .before .before .before .before .before in
-    at-rounds .rounds .kept .1 .1 .1 .1 .1 .1 .0 ∙ at-solve-terms .solve-terms .kept .1 .1 .1 .1 .1 .1 .1 .0
+same-length-4 c = search needs
 
 same-length-5 : tie.Need-same-length-5
-same-length-5 c =
-    let at-rounds = c .before .before .before .before in
-    let at-solve-terms = at-rounds .before .before .before .before .before .before .before .before .before in
-    at-rounds .rounds .kept .1 .1 .1 .1 .1 .1 .1 .0 ∙ at-solve-terms .solve-terms .kept .1 .1 .1 .1 .1 .1 .1 .1 .0
+same-length-5 c = search needs
 
 returns-4 : tie.Need-returns-4
-returns-4 c = c .before .before .before .before .rounds .ensures
+returns-4 c = search needs
 
 pub run-spec : {M : Type 1} → statement M
 run-spec =
     tie.close
-    (tie.spec
-    clear-requires
-    same-length
-    returns
-    returns-2
-    full-requires
-    solve-terms-requires
-    enum-told
-    enum-told-2
-    clear-requires-2
-    same-length-2
-    same-length-3
-    returns-3
-    rounds-requires
-    same-length-4
-    same-length-5
-    returns-4)
+    (tie.spec clear-requires same-length returns returns-2 full-requires solve-terms-requires enum-told enum-told-2 clear-requires-2 same-length-2 same-length-3 returns-3 rounds-requires same-length-4 same-length-5 returns-4)

@@ -1,71 +1,60 @@
--- `rounds` meets its contract. The loop's invariant: after this many rounds the rule goes on, with these coefficients, this last support and this many refits.
-use mathlib.Core.Path.{_≡_, refl, ap, _∙_}
+-- `rounds` meets its contract. The loop's invariant: after this many rounds, each of which refitted, the rule goes on with these coefficients and this last support.
+use mathlib.Core.Path.{_≡_, refl, sym, subst, _∙_}
 use mathlib.Core.List.{List, []}
-use mathlib.Core.Logic.{_≢_}
-use Prim.Native.Nat.{ℕ, _+_, _-_, _≤_, _<_}
+use Prim.Native.Nat.{ℕ, _-_, _≤_, _<_}
 use native.Mathlib.Omega.{arith}
 use lib.ListN.{length}
 use lib.Ieee.{Float}
 use borrow.Author.Needs.{needs}
 use denote.Ref.{now}
-use Rattle.rule.specs.Rule.{rounds}
-use Rattle.rounds.specs.Ran.{problem-of}
-use Rattle.rounds.proofs.Turns.{Going, out-of-rounds}
-use Rattle.rounds.proofs.Rounds.{tested-yes, tested-no, support-fits, turn-empty, turn-settled, turn-refused, turn-again}
+use Rattle.rule.specs.Rule.{Problem, rounds}
+use Rattle.rule.specs.Fits.{problem-of}
+use Rattle.rule.specs.Sizes.{Ready, still}
+use Rattle.rounds.specs.Turned.{Turned}
+use Rattle.rounds.specs.declared.inner.Turn.{Turn}
+use Rattle.rounds.proofs.Turns.{Going, out-of-rounds, goes-on, ends-empty, ends-settled, ends-refused}
 use Rattle.rounds.proofs.inner.rounds.Statement.{statement}
 use Rattle.rounds.proofs.inner.rounds.Tie as tie
 
 abbrev Inv-loop : tie.InvT-loop
-Inv-loop solver theta n-rows n-cols target setup coeffs₀ ws₀ last₀ refits₀ round₀ round-end coeffs ws last refits round =
-    (round-end ≡ setup .«max_iter») × (round ≤ round-end) × (refits ≡ round) × (length coeffs ≡ length coeffs₀) × (length ws ≡ length ws₀)
-    × Going (problem-of solver setup theta target n-rows n-cols) round coeffs (last .0) refits
+Inv-loop task theta target coeffs₀ ws₀ setup last₀ refits₀ refits-end coeffs ws last refits =
+    (refits-end ≡ task .setup .«max_iter») × (refits ≤ refits-end) × (length coeffs ≡ length coeffs₀) × (length ws ≡ length ws₀)
+    × Going (problem-of task theta target) refits coeffs (last .0)
 
 abbrev μ-loop : tie.MeasureT-loop
-μ-loop solver theta n-rows n-cols target setup coeffs₀ ws₀ last₀ refits₀ round₀ round-end coeffs ws last refits round = round-end - round
+μ-loop task theta target coeffs₀ ws₀ setup last₀ refits₀ refits-end coeffs ws last refits = refits-end - refits
 
--- a turn: its round is one of those allowed, and the coefficients are as many as the columns
+-- a turn of the loop
 module _ (c : tie.In-loop Inv-loop μ-loop) where
   abbrev start : tie.Start Inv-loop μ-loop
-  start = c .before .before .before .before .before .before .before
+  start = c .before .before .before .before .before .before .before .before
 
-  in-limit : c .before .loop .round < start .args .setup .«max_iter»
+  in-limit : c .before .loop .refits < start .args .task .setup .«max_iter»
   in-limit = omega (arith, c .loop-test .taken, c .before .loop .inv .0)
 
-  long : length (c .before .loop .coeffs) ≡ start .args .n-cols
-  long = c .before .loop .inv .3 ∙ start .pre .1
+  ready : Ready (start .args .task) (now (start .args .theta)) (now (start .args .target)) (c .before .loop .coeffs) (c .before .loop .ws)
+  ready = still (start .pre .0) (c .before .loop .inv .2) (c .before .loop .inv .3)
 
--- after the first test: a support that is not empty
-module _ (c : tie.Else1 Inv-loop μ-loop) where
-  abbrev looked : tie.After-support-of Inv-loop μ-loop
-  looked = c .before .before .before
-
-  abbrev top : tie.In-loop Inv-loop μ-loop
-  top = looked .before .before
-
-  not-empty : looked .support-of .result .0 ≢ 0
-  not-empty = tested-no _ _ 0 (c .before .same .ensures) (c .before .before .empty2 .ensures) (c .if1 .left)
-
--- after the second: nor the last one
-module _ (c : tie.Else2 Inv-loop μ-loop) where
-  abbrev some : tie.Else1 Inv-loop μ-loop
-  some = c .before .before
-
-  not-last : looked some .support-of .result .0 ≢ top some .before .loop .last .0
-  not-last = tested-no _ _ _ (c .before .same2 .ensures) refl (c .if2 .left)
-
--- after the solve: the slices are as long as they were
-module _ (c : tie.After-solve-terms Inv-loop μ-loop) where
-  abbrev other : tie.Else2 Inv-loop μ-loop
-  other = c .before .before .before
-
+-- after its round
+module _ (c : tie.After-round Inv-loop μ-loop) where
   abbrev turn : tie.In-loop Inv-loop μ-loop
-  turn = top (some other)
+  turn = c .before .before .before
+
+  abbrev P : Problem
+  P = problem-of (start turn .args .task) (now (start turn .args .theta)) (now (start turn .args .target))
 
   abbrev new-coeffs : List Float
-  new-coeffs = c .solve-terms .last .1 .1 .1 .1 .1 .1 .1 .0
+  new-coeffs = c .round .last .1 .1 .1 .1 .0
 
-  coeffs-kept : length new-coeffs ≡ length (turn .before .loop .coeffs)
-  coeffs-kept = c .solve-terms .kept .1 .1 .1 .1 .1 .1 .1 .0
+  same-coeffs : length new-coeffs ≡ length (now (start turn .args .coeffs))
+  same-coeffs = c .round .kept .1 .1 .1 .1 .0 ∙ turn .before .loop .inv .2
+
+  same-space : length (c .round .last .1 .1 .1 .1 .1 .0) ≡ length (now (start turn .args .ws))
+  same-space = c .round .kept .1 .1 .1 .1 .1 .0 ∙ turn .before .loop .inv .3
+
+  -- what it came to
+  came : (t : Turn) → c .round .result ≡ t → Turned P (turn .before .loop .last .0) (turn .before .loop .coeffs) t new-coeffs
+  came t e = subst (λ (s : Turn). Turned P (turn .before .loop .last .0) (turn .before .loop .coeffs) s new-coeffs) e (c .round .ensures)
 
 empty-requires : tie.Need-empty-requires Inv-loop μ-loop
 empty-requires c κs = search needs
@@ -73,171 +62,87 @@ empty-requires c κs = search needs
 loop-holds : tie.Need-loop-holds Inv-loop μ-loop
 unfolding rounds
 loop-holds c =
-    let begin = c .before .before .before .before .before in
-    (refl, omega arith, refl, refl, refl, record { refitted = []; state = begin .pre .4; last-is = c .empty .ensures; count-is = refl })
+    let begin = c .before .before .before .before .before .before in
+    (refl, omega arith, refl, refl, record { past = []; state = begin .pre .1; last-is = c .empty .ensures; count-is = refl })
 
-support-of-requires : tie.Need-support-of-requires Inv-loop μ-loop
-support-of-requires c κs = omega (arith, long (c .before), start (c .before) .pre .0 .cols)
+round-requires : tie.Need-round-requires Inv-loop μ-loop
+round-requires c κs = ready (c .before .before)
 
-empty-requires-2 : tie.Need-empty-requires-2 Inv-loop μ-loop
-empty-requires-2 c κs = search needs
-
-same-requires : tie.Need-same-requires Inv-loop μ-loop
-same-requires c κs = search needs
-
-clear-requires : tie.Need-clear-requires Inv-loop μ-loop
-clear-requires c κs =
-    let in-turn = c .before .before .before .before .before .before in
-    omega (arith, long in-turn)
-
-same-length : tie.Need-same-length Inv-loop μ-loop
-same-length c =
-    let at-clear = c .before .before in
-    let at-loop = at-clear .before .before .before .before .before .before .before .before in
-    at-clear .clear .kept .0 ∙ at-loop .loop .inv .3
-
-same-length-2 : tie.Need-same-length-2 Inv-loop μ-loop
-same-length-2 c = c .before .before .before .before .before .before .before .before .before .before .loop .inv .4
-
-returns : tie.Need-returns Inv-loop μ-loop
-returns c =
-    let at-clear = c .before .before in
-    let empty = at-clear .before .before in
-    let at-look = empty .before .before .before in
-    let in-turn = at-look .before .before in
-    let a = start in-turn .args in
-    turn-empty (a .solver) (a .setup) (now (a .theta)) (now (a .target)) (a .n-rows) (a .n-cols) (in-turn .before .loop .inv .5) (in-limit in-turn) (long in-turn)
-    _ (at-look .support-of .ensures) (tested-yes _ _ 0 (empty .before .same .ensures) (empty .before .before .empty2 .ensures) (empty .if1 .taken)) (at-clear .clear .ensures)
-
-same-requires-2 : tie.Need-same-requires-2 Inv-loop μ-loop
-same-requires-2 c κs = search needs
-
-same-length-3 : tie.Need-same-length-3 Inv-loop μ-loop
-same-length-3 c = top (c .before .before) .before .loop .inv .3
-
-same-length-4 : tie.Need-same-length-4 Inv-loop μ-loop
-same-length-4 c = top (c .before .before) .before .loop .inv .4
-
-returns-2 : tie.Need-returns-2 Inv-loop μ-loop
-returns-2 c =
-    let found = c .before .before in
-    let in-turn = top found in
-    let a = start in-turn .args in
-    turn-settled (a .solver) (a .setup) (now (a .theta)) (now (a .target)) (a .n-rows) (a .n-cols) (in-turn .before .loop .inv .5) (in-limit in-turn) (long in-turn)
-    _ (looked found .support-of .ensures) (not-empty found) (tested-yes _ _ _ (c .before .same2 .ensures) refl (c .if2 .taken))
-
-add-refits : tie.Need-add-refits Inv-loop μ-loop
-add-refits c =
-    let in-turn = top (some c) in
-    omega (arith, in-turn .before .loop .inv .2, in-limit in-turn, start in-turn .pre .3)
-
-solve-terms-requires : tie.Need-solve-terms-requires Inv-loop μ-loop
-solve-terms-requires c κs =
-    let found = some (c .before .before) in
-    let in-turn = top found in
-    let begin = start in-turn in
-    (begin .pre .0, long in-turn, support-fits _ _ _ (in-turn .before .loop .coeffs) (looked found .support-of .ensures) (long in-turn), in-turn .before .loop .inv .4 ∙ begin .pre .2)
+enum-known-support : tie.Need-enum-known-support Inv-loop μ-loop
+enum-known-support c = search needs
 
 enum-told : tie.Need-enum-told Inv-loop μ-loop
 enum-told c = search needs
 
+same-length : tie.Need-same-length Inv-loop μ-loop
+same-length c = same-coeffs (c .before .before .before .before .before .before)
+
+same-length-2 : tie.Need-same-length-2 Inv-loop μ-loop
+same-length-2 c = same-space (c .before .before .before .before .before .before)
+
+returns : tie.Need-returns Inv-loop μ-loop
+returns c =
+    let r = c .before .before .before .before .before .before in
+    ends-empty (P r) (turn r .before .loop .inv .4) (in-limit (turn r)) (came r _ (c .enum-told .given .1))
+
 enum-told-2 : tie.Need-enum-told-2 Inv-loop μ-loop
 enum-told-2 c = search needs
 
-clear-requires-2 : tie.Need-clear-requires-2 Inv-loop μ-loop
-clear-requires-2 c κs =
-    let solved = c .before .before .before .before .before .before .before in
-    omega (arith, coeffs-kept solved, long (turn solved))
+same-length-3 : tie.Need-same-length-3 Inv-loop μ-loop
+same-length-3 c = same-coeffs (c .before .before .before .before .before .before)
+
+same-length-4 : tie.Need-same-length-4 Inv-loop μ-loop
+same-length-4 c = same-space (c .before .before .before .before .before .before)
+
+returns-2 : tie.Need-returns-2 Inv-loop μ-loop
+returns-2 c =
+    let r = c .before .before .before .before .before .before in
+    ends-settled (P r) (turn r .before .loop .inv .4) (in-limit (turn r)) (came r _ (c .enum-told2 .given .1))
+
+enum-told-3 : tie.Need-enum-told-3 Inv-loop μ-loop
+enum-told-3 c = search needs
+
+add-t20 : tie.Need-add-t20 Inv-loop μ-loop
+add-t20 c =
+    let t = turn (c .before .before .before .before .before .before) in
+    omega (arith, in-limit t, start t .pre .0 .sized .limited .few-rounds)
 
 same-length-5 : tie.Need-same-length-5 Inv-loop μ-loop
-same-length-5 c =
-    let at-clear = c .before .before in
-    let solved = at-clear .before .before .before .before .before .before .before .before in
-    at-clear .clear2 .kept .0 ∙ coeffs-kept solved ∙ turn solved .before .loop .inv .3
+same-length-5 c = same-coeffs (c .before .before .before .before .before .before)
 
 same-length-6 : tie.Need-same-length-6 Inv-loop μ-loop
-same-length-6 c =
-    let solved = c .before .before .before .before .before .before .before .before .before .before in
-    solved .solve-terms .kept .1 .1 .1 .1 .1 .1 .1 .1 .0 ∙ turn solved .before .loop .inv .4
+same-length-6 c = same-space (c .before .before .before .before .before .before)
 
 returns-3 : tie.Need-returns-3 Inv-loop μ-loop
 returns-3 c =
-    let at-clear = c .before .before in
-    let told = at-clear .before .before .enum-told2 .given in
-    let solved = at-clear .before .before .before .before .before .before .before .before in
-    let found = some (other solved) in
-    let in-turn = turn solved in
-    let a = start in-turn .args in
-    turn-refused (a .solver) (a .setup) (now (a .theta)) (now (a .target)) (a .n-rows) (a .n-cols) (in-turn .before .loop .inv .5) (in-limit in-turn) (long in-turn)
-    _ (looked found .support-of .ensures) (solved .solve-terms .result) (told .0 .0) _ (new-coeffs solved) (not-empty found) (not-last (other solved))
-    (told .1) (solved .solve-terms .ensures) (coeffs-kept solved ∙ long in-turn) (at-clear .clear2 .ensures)
+    let r = c .before .before .before .before .before .before in
+    ends-refused (P r) (turn r .before .loop .inv .4) (in-limit (turn r)) (came r _ (c .enum-told3 .given .1))
 
-add-round : tie.Need-add-round Inv-loop μ-loop
-add-round c =
-    let in-turn = c .before .before .before .before .before .before .before .before .before .before .before .before .before .before .before .before in
-    omega (arith, in-limit in-turn, start in-turn .pre .3)
+add-refits : tie.Need-add-refits Inv-loop μ-loop
+add-refits c = search needs
 
 loop-less : tie.Need-loop-less Inv-loop μ-loop
 loop-less c =
-    let in-turn = c .before .before .before .before .before .before .before .before .before .before .before .before .before .before .before .before in
-    omega (arith, in-turn .loop-test .taken)
+    let t = turn (c .before .before .before .before .before .before .before) in
+    omega (arith, t .loop-test .taken)
 
 loop-again : tie.Need-loop-again Inv-loop μ-loop
 loop-again c =
-    let solved = c .before .before .before .before .before .before in
-    let found = some (other solved) in
-    let in-turn = turn solved in
-    let a = start in-turn .args in (
-      in-turn .before .loop .inv .0,
-      omega (arith, in-turn .loop-test .taken),
-      ap (λ (x : ℕ). x + 1) (in-turn .before .loop .inv .2),
-      coeffs-kept solved ∙ in-turn .before .loop .inv .3,
-      solved .solve-terms .kept .1 .1 .1 .1 .1 .1 .1 .1 .0 ∙ in-turn .before .loop .inv .4,
-      turn-again (a .solver) (a .setup) (now (a .theta)) (now (a .target)) (a .n-rows) (a .n-cols) (in-turn .before .loop .inv .5) (in-limit in-turn) (long in-turn)
-          _ (looked found .support-of .ensures) (solved .solve-terms .result) (new-coeffs solved) (not-empty found) (not-last (other solved)) (c .enum-told .given .1) (solved .solve-terms .ensures),
-    )
+    let r = c .before .before .before .before .before .before .before in
+    (turn r .before .loop .inv .0, omega (arith, in-limit (turn r)), same-coeffs r, same-space r, goes-on (P r) (turn r .before .loop .inv .4) _ (came r _ (c .before .support .given .1)))
 
 same-length-7 : tie.Need-same-length-7 Inv-loop μ-loop
-same-length-7 c = c .before .loop .inv .3
+same-length-7 c = c .before .loop .inv .2
 
 same-length-8 : tie.Need-same-length-8 Inv-loop μ-loop
-same-length-8 c = c .before .loop .inv .4
+same-length-8 c = c .before .loop .inv .3
 
 returns-4 : tie.Need-returns-4 Inv-loop μ-loop
 returns-4 c =
-    let end = c .before .loop in
-    out-of-rounds _ (end .inv .5) (omega (arith, end .inv .0)) (omega (arith, end .inv .0))
+    let inv = c .before .loop .inv in
+    out-of-rounds _ (inv .4) (omega (arith, inv .0, inv .1)) (omega (arith, inv .0, c .loop-test .left))
 
 pub rounds-spec : {M : Type 1} → statement M
 rounds-spec =
     tie.close
-    (tie.spec
-    Inv-loop
-    μ-loop
-    empty-requires
-    loop-holds
-    support-of-requires
-    empty-requires-2
-    same-requires
-    clear-requires
-    same-length
-    same-length-2
-    returns
-    same-requires-2
-    same-length-3
-    same-length-4
-    returns-2
-    add-refits
-    solve-terms-requires
-    enum-told
-    enum-told-2
-    clear-requires-2
-    same-length-5
-    same-length-6
-    returns-3
-    add-round
-    loop-less
-    loop-again
-    same-length-7
-    same-length-8
-    returns-4)
+    (tie.spec Inv-loop μ-loop empty-requires loop-holds round-requires enum-known-support enum-told same-length same-length-2 returns enum-told-2 same-length-3 same-length-4 returns-2 enum-told-3 add-t20 same-length-5 same-length-6 returns-3 add-refits loop-less loop-again same-length-7 same-length-8 returns-4)

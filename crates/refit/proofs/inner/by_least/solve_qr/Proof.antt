@@ -1,15 +1,18 @@
 -- `solve_qr` meets its contract: the values are read behind the matrix and put at their terms, or the refusal is passed on.
 use mathlib.Core.Path.{_≡_, _∙_}
 use mathlib.Core.List.{List}
-use Prim.Native.Nat.{ℕ, _+_, _*_, _≤_}
+use Prim.Native.Nat.{ℕ, _+_, _≤_}
 use native.Mathlib.Omega.{arith}
 use borrow.Author.Needs.{needs}
-use lib.ListN.{length}
-use lib.Ieee.{Float}
 use denote.Ref.{now}
-use Rattle.steps.specs.Space.{withPart}
-use Rattle.refit.proofs.Joined.{narrow, area}
-use Rattle.refit.proofs.Placing.{over-is, refused-is, solved-is, qr-fits, qr-head, same-space, few-in, copy-fits, same-coeffs, scattered}
+use lib.ListN.{length, take, drop}
+use lib.Ieee.{Float}
+use Rattle.steps.specs.Space.{part, withPart}
+use Rattle.rule.specs.declared.Task.{Task}
+use Rattle.refit.specs.Parts.{Counted}
+use Rattle.refit.proofs.Large.{narrow, area, counted, least-fits, cells, both}
+use Rattle.refit.proofs.Joined as J
+use Rattle.refit.proofs.Ends.{refused-values, done-values}
 use Rattle.refit.proofs.inner.by_least.solve_qr.Statement.{statement}
 use Rattle.refit.proofs.inner.by_least.solve_qr.Tie as tie
 
@@ -18,82 +21,63 @@ module _ (c : tie.After-count) where
   abbrev start : tie.Start
   start = c .before .before .before .before .before
 
+  abbrev task : Task
+  task = start .args .task
+
   abbrev k : ℕ
   k = c .count .result
 
-  -- the numbers of the matrix, and with the right-hand side
-  abbrev cells : ℕ
-  cells = (start .args .n-rows + k) * k
-
-  abbrev both : ℕ
-  both = cells + (start .args .n-rows + k)
+  few : Counted task (now (start .args .theta)) (now (start .args .target)) (start .args .support .0) k
+  few = counted (start .pre .0) (start .pre .1) (c .count .ensures)
 
   abbrev space : List Float
   space = now (start .args .ws)
 
-  at-most : k ≤ 64
-  at-most = narrow (start .args .n-rows) (start .args .n-cols) (start .args .support .0) k (c .count .ensures) (start .pre .2) (start .pre .0)
-
-  few-cells : cells ≤ 266240
-  few-cells = area (start .args .n-rows) (start .args .n-cols) (start .args .support .0) k (c .count .ensures) (start .pre .2) (start .pre .0)
-
-  fits : both ≤ length space
-  fits = qr-fits (start .args .n-rows) (start .args .n-cols) (start .args .support .0) k space (c .count .ensures) (start .pre .2) (start .pre .3)
+  fits : both task k ≤ length space
+  fits = least-fits (start .pre .0) (start .pre .1) (c .count .ensures) (start .pre .2)
 
 -- after the solve: what it left in the head of the workspace
 module _ (c : tie.After-qr-values) where
-  abbrev counted : tie.After-count
-  counted = c .before .before
+  abbrev n : tie.After-count
+  n = c .before .before .before
 
-  abbrev head : List Float
-  head = c .qr-values .last .1 .1 .1 .1 .1 .1 .1 .0
+  abbrev left : List Float
+  left = c .qr-values .last .1 .1 .1 .1 .1 .0
 
-  space-kept : length (withPart 0 (both counted) head (space counted)) ≡ length (space counted)
-  space-kept =
-      let a = start counted .args in
-      same-space (a .n-rows) (a .n-cols) (a .support .0) (k counted) (space counted) (counted .count .ensures) (start counted .pre .2) (start counted .pre .3) head (c .qr-values .kept .1 .1 .1 .1 .1 .1 .1 .0)
+  space-kept : length (withPart 0 (both (task n) (k n)) left (space n)) ≡ length (space n)
+  space-kept = J.space-kept (task n) (k n) (space n) left (fits n) (c .qr-values .kept .1 .1 .1 .1 .1 .0)
 
--- after the values were copied to the head of the coefficients
-module _ (c : tie.After-copy) where
-  abbrev solved : tie.After-qr-values
-  solved = c .before .before .before .before .before .before .before .before
+  read : part (cells (task n) (k n)) (cells (task n) (k n) + k n) (withPart 0 (both (task n) (k n)) left (space n)) ≡ take (k n) (drop (cells (task n) (k n)) left)
+  read = J.read (task n) (k n) (space n) left (fits n) (c .qr-values .kept .1 .1 .1 .1 .1 .0)
 
-  abbrev coeffs : List Float
-  coeffs = now (start (counted solved) .args .coeffs)
-
-  coeffs-kept : length (withPart 0 (k (counted solved)) (c .copy .last .1 .0) coeffs) ≡ length coeffs
-  unfolding withPart
-  coeffs-kept =
-      let n = counted solved in
-      let a = start n .args in
-      same-coeffs (a .n-rows) (a .n-cols) (a .support .0) (k n) (space n) (n .count .ensures) (start n .pre .2) (start n .pre .3) (head solved) (solved .qr-values .kept .1 .1 .1 .1 .1 .1 .1 .0) coeffs (start n .pre .1) (c .copy .last .1 .0) (c .copy .ensures)
+  read-long : length (part (cells (task n) (k n)) (cells (task n) (k n) + k n) (withPart 0 (both (task n) (k n)) left (space n))) ≡ k n
+  read-long = J.read-long (task n) (k n) (space n) left (fits n) (c .qr-values .kept .1 .1 .1 .1 .1 .0)
 
 count-requires : tie.Need-count-requires
 count-requires c κs = search needs
 
 add-m : tie.Need-add-m
-add-m c = omega (arith, start c .pre .0 .few, at-most c)
+add-m c = let s = few (c .before) in omega (arith, narrow s, s .sized .limited .few-rows)
 
 mul-e : tie.Need-mul-e
-mul-e c = omega (arith, few-cells c)
+mul-e c = omega (arith, area (few (c .before)))
 
 add-f : tie.Need-add-f
-add-f c = omega (arith, start c .pre .0 .few, at-most c, few-cells c)
+add-f c = let s = few (c .before) in omega (arith, narrow s, s .sized .limited .few-rows, area s)
 
 sub-qr-values : tie.Need-sub-qr-values
-sub-qr-values c = omega arith
+sub-qr-values c = search needs
 
 part-qr-values-start : tie.Need-part-qr-values-start
-part-qr-values-start c = omega arith
+part-qr-values-start c = search needs
 
 part-qr-values-end : tie.Need-part-qr-values-end
-part-qr-values-end c = fits c
+part-qr-values-end c = fits (c .before)
 
 qr-values-requires : tie.Need-qr-values-requires
 qr-values-requires c κs =
-    let n = c .before in
-    let a = start n .args in
-    (start n .pre .0, start n .pre .2, n .count .ensures, qr-head (a .n-rows) (a .n-cols) (a .support .0) (k n) (space n) (n .count .ensures) (start n .pre .2) (start n .pre .3))
+    let n = c .before .before in
+    (few n, J.length-head (both (task n) (k n)) (space n) (fits n), start n .pre .2)
 
 enum-told : tie.Need-enum-told
 enum-told c = search needs
@@ -107,87 +91,76 @@ same-length c = space-kept (c .before .before .before .before)
 
 returns : tie.Need-returns
 returns c =
-    let qr = c .before .before .before .before in
-    let n = counted qr in
-    let a = start n .args in
-    refused-is (a .n-cols) (a .support .0) (k n) _ _ (now (a .coeffs)) (qr .qr-values .result) _ (c .enum-told2 .given .1)
-    (over-is (a .n-rows) (a .n-cols) (a .support .0) (k n) (a .lambda) (now (a .theta)) (now (a .target)) _ (n .count .ensures) (qr .qr-values .ensures))
+    let solve = c .before .before .before .before in
+    refused-values _ _ _ (solve .qr-values .result) (k (n solve)) _ _ _ (c .enum-told2 .given .1) (solve .qr-values .ensures)
 
 add-h : tie.Need-add-h
-add-h c =
-    let n = counted (c .before .before .before .before) in
-    omega (arith, at-most n, few-cells n)
+add-h c = let s = few (n (c .before .before .before .before)) in omega (arith, narrow s, area s)
 
-mul-copy : tie.Need-mul-copy
-mul-copy c = omega (arith, few-cells (counted (c .before .before .before .before)))
+mul-spread : tie.Need-mul-spread
+mul-spread c = omega (arith, area (few (n (c .before .before .before .before))))
 
-sub-copy : tie.Need-sub-copy
-sub-copy c = omega arith
+sub-spread : tie.Need-sub-spread
+sub-spread c = search needs
 
-part-copy-start : tie.Need-part-copy-start
-part-copy-start c = omega arith
+part-spread-start : tie.Need-part-spread-start
+part-spread-start c = search needs
 
-part-copy-end : tie.Need-part-copy-end
+part-spread-end : tie.Need-part-spread-end
 unfolding withPart
-part-copy-end c =
-    let qr = c .before .before .before .before .before in
-    omega (arith, space-kept qr, fits (counted qr))
+part-spread-end c =
+    let solve = c .before .before .before .before .before in
+    omega (arith, space-kept solve, fits (n solve))
 
-sub-copy-2 : tie.Need-sub-copy-2
-sub-copy-2 c = omega arith
-
-part-copy-start-2 : tie.Need-part-copy-start-2
-part-copy-start-2 c = omega arith
-
-part-copy-end-2 : tie.Need-part-copy-end-2
-part-copy-end-2 c =
-    let qr = c .before .before .before .before .before .before in
-    let n = counted qr in
-    let a = start n .args in
-    few-in (a .n-rows) (a .n-cols) (a .support .0) (k n) (space n) (n .count .ensures) (start n .pre .2) (start n .pre .3) (head qr) (qr .qr-values .kept .1 .1 .1 .1 .1 .1 .1 .0) (now (a .coeffs)) (start n .pre .1)
-
-copy-requires : tie.Need-copy-requires
+spread-requires : tie.Need-spread-requires
 unfolding withPart
-copy-requires c κs =
-    let qr = c .before .before .before .before .before .before .before in
-    let n = counted qr in
-    let a = start n .args in
-    copy-fits (a .n-rows) (a .n-cols) (a .support .0) (k n) (space n) (n .count .ensures) (start n .pre .2) (start n .pre .3) (head qr) (qr .qr-values .kept .1 .1 .1 .1 .1 .1 .1 .0) (now (a .coeffs)) (start n .pre .1)
-
-scatter-requires : tie.Need-scatter-requires
-unfolding withPart
-scatter-requires c κs =
-    let copied = c .before .before .before in
-    let begin = start (counted (solved copied)) in
-    omega (arith, coeffs-kept copied, begin .pre .1, begin .pre .0 .cols)
+spread-requires c κs =
+    let solve = c .before .before .before .before .before .before .before in
+    let begin = start (n solve) in
+    let long = begin .pre .0 .coeffs-long in
+    (read-long solve ∙ n solve .count .ensures, rw long (begin .pre .1), omega (arith, long, begin .pre .0 .sized .limited .few-cols))
 
 same-length-2 : tie.Need-same-length-2
-unfolding withPart
-same-length-2 c =
-    let spread = c .before .before in
-    let copied = spread .before .before .before .before in
-    spread .scatter .kept .0 ∙ coeffs-kept copied
+same-length-2 c = search needs
 
 same-length-3 : tie.Need-same-length-3
 unfolding withPart
 same-length-3 c =
-    let copied = c .before .before .before .before .before .before in
-    space-kept (solved copied)
+    let put = c .before .before in
+    space-kept (put .before .before .before .before .before .before .before .before)
 
 returns-2 : tie.Need-returns-2
 unfolding withPart
 returns-2 c =
-    let spread = c .before .before in
-    let copied = spread .before .before .before .before in
-    let done = copied .before .before .before .before in
-    let qr = solved copied in
-    let n = counted qr in
-    let a = start n .args in
-    solved-is (a .n-cols) (a .support .0) (k n) _ (spread .scatter .last .0) (qr .qr-values .result) _ (done .enum-told .given .1)
-    (over-is (a .n-rows) (a .n-cols) (a .support .0) (k n) (a .lambda) (now (a .theta)) (now (a .target)) _ (n .count .ensures) (qr .qr-values .ensures))
-    (scattered (a .n-rows) (a .n-cols) (a .support .0) (k n) (space n) (n .count .ensures) (start n .pre .2) (start n .pre .3) (head qr) (qr .qr-values .kept .1 .1 .1 .1 .1 .1 .1 .0) (coeffs copied) (start n .pre .1) (copied .copy .last .1 .0) (copied .copy .ensures) (spread .scatter .last .0) (spread .scatter .ensures))
+    let put = c .before .before in
+    let told = put .before .before .before .before in
+    let solve = told .before .before .before .before in
+    let begin = start (n solve) in
+    done-values _ _ _ (solve .qr-values .result) (k (n solve)) _ (told .enum-told .given .1) (solve .qr-values .ensures)
+    (put .spread .ensures ∙ rw (begin .pre .0 .coeffs-long, read solve))
 
 pub solve-qr-spec : {M : Type 1} → statement M
 solve-qr-spec =
     tie.close
-    (tie.spec count-requires add-m mul-e add-f sub-qr-values part-qr-values-start part-qr-values-end qr-values-requires enum-told enum-told-2 same-length returns add-h mul-copy sub-copy part-copy-start part-copy-end sub-copy-2 part-copy-start-2 part-copy-end-2 copy-requires scatter-requires same-length-2 same-length-3 returns-2)
+    (tie.spec
+    count-requires
+    add-m
+    mul-e
+    add-f
+    sub-qr-values
+    part-qr-values-start
+    part-qr-values-end
+    qr-values-requires
+    enum-told
+    enum-told-2
+    same-length
+    returns
+    add-h
+    mul-spread
+    sub-spread
+    part-spread-start
+    part-spread-end
+    spread-requires
+    same-length-2
+    same-length-3
+    returns-2)

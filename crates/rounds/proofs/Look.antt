@@ -1,0 +1,77 @@
+-- A round, in the words of what the code's calls ensure. Assumes nothing.
+use mathlib.Core.Path.{_≡_, sym, ap, _∙_}
+use mathlib.Core.Logic.{_≢_}
+use mathlib.Core.Bool.{Bool, true, false}
+use mathlib.Core.List.{List, _∷_}
+use Prim.Native.Nat.{ℕ, _^_, _<_}
+use borrow.Author.Tests.{eqb-true, eqb-false, eq-eqb, ne-eqb}
+use lib.Dec.{eqb}
+use lib.ListN.{length}
+use lib.Ieee.{Float}
+use Rattle.steps.specs.Num.{at}
+use Rattle.steps.specs.Space.{cleared}
+use Rattle.support.specs.Word.{word}
+use Rattle.support.specs.WordLaws.{word-lt}
+use Rattle.support.specs.declared.Support.{Support}
+use Rattle.refusal.specs.declared.Solved.{Solved}
+use Rattle.refusal.specs.declared.Solved.the-variants as A
+use Rattle.rule.specs.declared.Task.{Task}
+use Rattle.rule.specs.Rule.{Problem, going, latest, support, refit, look, round}
+use Rattle.rule.specs.Fits.{keeps, problem, problem-of}
+use Rattle.refit.specs.Parts.{OverSupport}
+use Rattle.refit.specs.Placed.{gave-done, gave-refused, placed-solved, placed-refused}
+use Rattle.rounds.specs.declared.inner.Turn.the-variants.{Again, Empty, Settled, Refused}
+use Rattle.rounds.specs.Turned.{Turned}
+use Rattle.rounds.specs.Ended.{zeroed}
+
+-- a test of two words
+pub tested-yes : {b : Bool} (w v u : ℕ) → b ≡ eqb w v → v ≡ u → b ≡ true → w ≡ u
+tested-yes w v u e q t = eqb-true w v (sym e ∙ t) ∙ q
+
+pub tested-no : {b : Bool} (w v u : ℕ) → b ≡ eqb w v → v ≡ u → b ≡ false → w ≢ u
+tested-no w v u e q t z = eqb-false w v (sym e ∙ t) (z ∙ sym q)
+
+-- a collected support has no term beyond the coefficients
+pub support-fits : (f : ℕ → Bool) (w n : ℕ) (cs : List Float) → w ≡ word f (length cs) → length cs ≡ n → w < 2 ^ n
+support-fits f w n cs e l = rw (e, l) (word-lt f n)
+
+-- a look at cs that found w
+module _ (task : Task) (theta target : List Float) (last : ℕ) (cs : List Float) (long : length cs ≡ task .cols)
+    (w : Support) (s : w .0 ≡ word (λ j. keeps (task .setup) j (at cs j)) (length cs)) where
+  abbrev P : Problem
+  P = problem-of task theta target
+
+  found : w .0 ≡ support P cs
+  unfolding support problem
+  found = s ∙ ap (word (λ j. keeps (task .setup) j (at cs j))) long
+
+  looked : (past : List ℕ) → round P (going cs past) ≡ look P cs past (w .0)
+  unfolding round
+  looked past = ap (look P cs past) (sym found)
+
+  pub turn-empty : {x : List Float} → w .0 ≡ 0 → x ≡ cleared (task .cols) cs → Turned P last cs Empty x
+  unfolding look problem
+  turn-empty z e = record { rule = λ past i. looked past ∙ rw (eq-eqb (w .0) 0 z, zeroed (task .cols) cs long e) }
+
+  module _ (some : w .0 ≢ 0) where
+    pub turn-settled : w .0 ≡ last → Turned P last cs Settled cs
+    unfolding look
+    turn-settled e = record { rule = λ past i. looked past ∙ rw (ne-eqb (w .0) 0 some, eq-eqb (w .0) (latest past) (e ∙ i)) }
+
+    -- the solve over w, whose answer was a, and which left y
+    module _ (other : w .0 ≢ last) (a : Solved) (y : List Float) (solve : OverSupport task theta target (w .0) a y) where
+      solving : (past : List ℕ) → last ≡ latest past → round P (going cs past) ≡ refit P past (w .0) (P .solve (w .0))
+      unfolding look
+      solving past i = looked past ∙ rw (ne-eqb (w .0) 0 some, ne-eqb (w .0) (latest past) (λ q. other (q ∙ sym i)))
+
+      pub turn-refused : (c : ℕ) (x : List Float) → a ≡ A.Refused c → length y ≡ task .cols → x ≡ cleared (task .cols) y → Turned P last cs Refused x
+      unfolding refit problem
+      turn-refused c x t h e =
+          let no = placed-refused (task .cols) (w .0) c (P .solve (w .0)) (gave-refused a c y _ t solve) in
+          record { rule = λ past i. solving past i ∙ rw (no, zeroed (task .cols) y h e, found) }
+
+      pub turn-again : a ≡ A.Done → Turned P last cs (Again w) y
+      unfolding refit problem
+      turn-again t =
+          let p = placed-solved (task .cols) (w .0) (P .solve (w .0)) y (gave-done a y _ t solve) in
+          record { rule = λ past i. solving past i ∙ ap (refit P past (w .0)) (p .solves) ∙ ap (λ (x : List Float). going x (w .0 ∷ past)) (sym (p .puts)) }
