@@ -62,7 +62,7 @@ fn entry_at(list: &[u8], at: usize) -> Entry
 fn alike(input: &[u8], wanted: &[u8]) -> bool
     ensures { λ r. ⌜ (r ≡ true → answer-of (now (input .entry)) ≡ now (wanted .entry)) × (answer-of (now (input .entry)) ≡ now (wanted .entry) → r ≡ true) ⌝ }
 {
-    let mut answer = [0u8; 295];
+    let mut answer = [0u8; frames::ANSWER];
     let k = frames::respond(input, &mut answer);
     check::same(&answer[..k], wanted)
 }
