@@ -63,17 +63,5 @@ returns-3 c =
 
 pub respond-spec : {M : Type 1} → statement M
 respond-spec =
-    tie.close
-    (tie.spec
-    read-header-requires
-    enum-known-task
-    enum-told
-    write-refusal-requires
-    returns
-    check-requires
-    enum-told-2
-    fit-rows-requires
-    enum-known-w
-    write-refusal-requires-2
-    returns-2
-    returns-3)
+    tie.close (tie.spec read-header-requires enum-known-task enum-told write-refusal-requires returns check-requires enum-told-2 fit-rows-requires
+    enum-known-w write-refusal-requires-2 returns-2 returns-3)

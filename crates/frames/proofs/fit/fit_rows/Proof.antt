@@ -65,19 +65,5 @@ returns c =
 
 pub fit-rows-spec : {M : Type 1} → statement M
 fit-rows-spec =
-    tie.close
-    (tie.spec
-    mul-n
-    slice-aggregate-read-theta
-    read-theta-requires
-    slice-aggregate-read-target
-    read-target-requires
-    sub-fit-read
-    part-fit-read-start
-    part-fit-read-end
-    sub-fit-read-2
-    part-fit-read-start-2
-    part-fit-read-end-2
-    fit-read-requires
-    same-length
-    returns)
+    tie.close (tie.spec mul-n slice-aggregate-read-theta read-theta-requires slice-aggregate-read-target read-target-requires sub-fit-read
+    part-fit-read-start part-fit-read-end sub-fit-read-2 part-fit-read-start-2 part-fit-read-end-2 fit-read-requires same-length returns)

@@ -49,4 +49,6 @@ returns c =
     )
 
 pub fields-spec : {M : Type 1} → statement M
-fields-spec = tie.close (tie.spec number-at-requires size-requires number-at-requires-2 size-requires-2 number-at-requires-3 size-requires-3 float-requires float-requires-2 returns)
+fields-spec =
+    tie.close (tie.spec number-at-requires size-requires number-at-requires-2 size-requires-2 number-at-requires-3 size-requires-3 float-requires
+    float-requires-2 returns)
