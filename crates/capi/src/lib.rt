@@ -57,7 +57,7 @@ pub extern "C" fn dapmotar_jtr(
 
 // The bench program's exchange: the answer to an input at the head of `answer`, and its length.
 #[no_mangle]
-pub extern "C" fn dapmotar_respond(input: &[u8], answer: &mut [u8; 295]) -> usize
+pub extern "C" fn dapmotar_respond(input: &[u8], answer: &mut [u8; frames::ANSWER]) -> usize
     ensures { λ r. ⌜ Exchange (now (input .entry)) (now (answer .entry)) (now (answer .exit)) r ⌝ }
 {
     frames::respond(input, answer)

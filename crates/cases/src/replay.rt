@@ -1,12 +1,15 @@
-// The list of exchanges, by the oracle: `cd oracle/diff && cargo run --release --features stand-in -- replay 1 > ../../crates/cases/stdin`. An entry is two lengths of four hex digits and a newline, then an input and its answer; an entry with no answer names the group of those after it.
-ghost use Prim.Native.Nat.{_≤_};
+// The list of exchanges, by the oracle: `cd oracle/diff && cargo run --release --features stand-in -- replay 1 > ../../crates/cases/stdin`.
+// An entry is two lengths of four hex digits and a newline, then an input and its answer; an entry with no answer names the group of those after it.
+ghost use Prim.Native.Nat.{_+_, _≤_};
 ghost use mathlib.Core.Path.{_≡_};
 ghost use mathlib.Core.Bool.{true};
 ghost use lib.ListN.{length};
 ghost use Rattle.frames.specs.Exchange.{answer-of};
-ghost use Rattle.cases.specs.List.{Placed, Tallied};
+ghost use Rattle.cases.specs.declared.replay.Entry.the-variants.{Name, Exchange};
+ghost use Rattle.cases.specs.List.{head, Placed, Tallied};
 use hex::inner::all_hex;
-use hex::inner::number;
+use hex::inner::number_at;
+use hex::inner::size;
 use libc::STDOUT_FILENO;
 
 // What stands at a place of the list: a name up to its end, an input and an answer up to theirs, or no entry.
@@ -23,48 +26,57 @@ struct Tally {
     end: usize,
 }
 
-fn size(n: u64) -> usize
-    ensures { λ r. ⌜ r ≡ n ⌝ }
+// The bytes of an entry's two lengths and their newline.
+const HEAD: usize = 9;
+
+// The entry of two texts of these lengths from a place on, if they end within the list.
+fn entry_of(from: usize, end: usize, first: usize, second: usize) -> Entry
+    requires { ⌜ from ≤ end ⌝ }
+    ensures { λ r. ⌜ Placed r from end ⌝ }
 {
-    n as usize
+    if first > end - from {
+        return Entry::Nothing;
+    }
+    let mid = from + first;
+    if second > end - mid {
+        return Entry::Nothing;
+    }
+    if second == 0 {
+        return Entry::Name(mid);
+    }
+    Entry::Exchange(mid, mid + second)
 }
 
 // The entry at a place.
 fn entry_at(list: &[u8], at: usize) -> Entry
     requires { ⌜ at ≤ length (now list) ⌝ }
-    ensures { λ r. ⌜ Placed r at (length (now (list .entry))) ⌝ }
+    ensures { λ r. ⌜ Placed r (at + head) (length (now (list .entry))) ⌝ }
 {
-    let left = list.len() - at;
-    if left < 9 {
+    if list.len() - at < HEAD {
         return Entry::Nothing;
     }
-    if !all_hex(list, at, 4) {
+    if !all_hex(list, at, 8) {
         return Entry::Nothing;
     }
-    if !all_hex(list, at + 4, 4) {
-        return Entry::Nothing;
-    }
-    let first = size(number(list, at, 4));
-    if first > left - 9 {
-        return Entry::Nothing;
-    }
-    let second = size(number(list, at + 4, 4));
-    if second > left - 9 - first {
-        return Entry::Nothing;
-    }
-    if second == 0 {
-        return Entry::Name(at + 9 + first);
-    }
-    Entry::Exchange(at + 9 + first, at + 9 + first + second)
+    let first = size(number_at(list, at, 4));
+    let second = size(number_at(list, at + 4, 4));
+    entry_of(at + HEAD, list.len(), first, second)
 }
 
 // Whether an input is answered so.
 fn alike(input: &[u8], wanted: &[u8]) -> bool
     ensures { λ r. ⌜ (r ≡ true → answer-of (now (input .entry)) ≡ now (wanted .entry)) × (answer-of (now (input .entry)) ≡ now (wanted .entry) → r ≡ true) ⌝ }
 {
-    let mut answer = [0u8; 295];
+    let mut answer = [0u8; frames::ANSWER];
     let k = frames::respond(input, &mut answer);
     check::same(&answer[..k], wanted)
+}
+
+// Whether the input of an entry is answered so.
+fn answered(list: &[u8], from: usize, mid: usize, end: usize) -> bool
+    requires { ⌜ Placed (Exchange mid end) from (length (now list)) ⌝ }
+{
+    alike(&list[from..mid], &list[mid..end])
 }
 
 // How many of so many exchanges were answered alike.
@@ -75,6 +87,13 @@ fn say_tally(name: &[u8], alike: usize, all: usize) {
     io::write_all(STDOUT_FILENO, b" of ");
     io::print_decimal(STDOUT_FILENO, all as u64);
     io::write_all(STDOUT_FILENO, b"\n");
+}
+
+// The same, of a group by its name.
+fn say_group(list: &[u8], from: usize, end: usize, alike: usize, all: usize)
+    requires { ⌜ Placed (Name end) from (length (now list)) ⌝ }
+{
+    say_tally(&list[from..end], alike, all);
 }
 
 // Runs the exchanges from a place on, up to what is none.
@@ -93,10 +112,10 @@ fn group(list: &[u8], from: usize) -> Tally
                 end: at,
             };
         };
-        let input = at + 9;
+        let from = at + HEAD;
         all += 1;
         at = end;
-        if alike(&list[input..mid], &list[mid..end]) {
+        if answered(list, from, mid, end) {
             same += 1;
         }
     }
@@ -121,8 +140,7 @@ fn groups(list: &[u8]) -> Tally {
             };
         };
         let t = group(list, end);
-        let name = at + 9;
-        say_tally(&list[name..end], t.alike, t.all);
+        say_group(list, at + HEAD, end, t.alike, t.all);
         at = t.end;
         same += t.alike;
         all += t.all;

@@ -3,18 +3,18 @@ use mathlib.Core.Path.{_≡_}
 use mathlib.Core.Bool.{not}
 use mathlib.Core.List.{List}
 use Prim.Native.Nat.{ℕ}
-use borrow.Author.Tests.{ltb-false, not-false}
-use lib.Dec.{ltb}
-use Rattle.refusal.specs.Ladder.{passed}
+use borrow.Author.Tests.{not-false}
+use Rattle.refusal.specs.Ladder.{passed, both-passed}
 use Rattle.refusal.specs.declared.Answer.{Answer}
 use Rattle.refusal.specs.declared.Answer.the-variants.{Done}
-use Rattle.refusal.specs.declared.Refusal.the-variants.{ManyColumns, ManyRows, ManyRounds, Malformed}
+use Rattle.refusal.specs.declared.Refusal.the-variants.{Malformed}
+use Rattle.rule.specs.Sizes.{limits, limits-hold}
+use Rattle.rule.specs.declared.Task.{Task}
 use Rattle.reader.specs.Header.{head-of}
-use Rattle.reader.specs.Rows.{rows-formed}
-use Rattle.writer.specs.Answer.{refusal-line}
-use Rattle.frames.specs.Exchange.{checked, Accepted, answer-lines, answer-to, answer-of}
-use Rattle.reader.specs.declared.inner.header.Header.{Header}
 use Rattle.reader.specs.declared.inner.header.Head.the-variants.{Good, Wrong}
+use Rattle.writer.specs.Answer.{refusal-line}
+use Rattle.frames.specs.Limits.{most-cols, most-rows}
+use Rattle.frames.specs.Exchange.{rows-formed, checked, Accepted, answer-lines, answer-to, answer-of}
 
 -- a malformed header
 pub answer-wrong : (s : List ℕ) → head-of s ≡ Wrong → answer-of s ≡ refusal-line Malformed
@@ -22,16 +22,14 @@ unfolding answer-of answer-to
 answer-wrong s e = rw e
 
 -- a good one
-pub answer-good : (s : List ℕ) (h : Header) (a : Answer) → head-of s ≡ Good h → checked s h ≡ a → answer-of s ≡ answer-lines s h a
+pub answer-good : (s : List ℕ) (task : Task) (a : Answer) → head-of s ≡ Good task → checked s task ≡ a → answer-of s ≡ answer-lines s task a
 unfolding answer-of answer-to
-answer-good s h a e f = rw (e, f)
+answer-good s task a e f = rw (e, f)
 
 -- an accepted input is within the limits, and its rows are well formed
-pub accepted : (s : List ℕ) (h : Header) → checked s h ≡ Done → Accepted s h
+pub was-accepted : (s : List ℕ) (task : Task) → checked s task ≡ Done → Accepted s task
 unfolding checked
-accepted s h e =
-    let one = passed (ltb 16 (h .cols)) ManyColumns _ e in
-    let two = passed (ltb 128 (h .rows)) ManyRows _ (one .1) in
-    let three = passed (ltb 1000 (h .setup .«max_iter»)) ManyRounds _ (two .1) in
-    let four = passed (not (rows-formed s (h .rows) (h .cols))) Malformed _ (three .1) in
-    record { rows-fine = record { few-cols = ltb-false _ _ (one .0); few-rows = ltb-false _ _ (two .0); formed = not-false _ (four .0) }; few-rounds = ltb-false _ _ (three .0) }
+was-accepted s task e =
+    let both = both-passed (limits most-cols most-rows task) _ e in
+    let rows = passed (not (rows-formed s task)) Malformed Done (both .1) in
+    record { limited = limits-hold (both .0); formed = not-false _ (rows .0) }

@@ -6,10 +6,11 @@ use Prim.Native.Char.{code}
 use Prim.Native.String as S
 use Prim.Native.String.{String}
 use lib.Ieee.{toBits, isNan}
+use Rattle.rule.specs.Sizes.{limits}
 use Rattle.hex.specs.All.{all}
 use Rattle.hex.specs.Hex as H
 use Rattle.reader.specs.Header as D
-use Rattle.reader.specs.Rows as R
+use Rattle.reader.specs.Frames as F
 use Rattle.writer.specs.Answer as A
 use Rattle.frames.specs.Exchange as X
 use Rattle.frames.specs.Exchange.{answer-of}
@@ -21,9 +22,9 @@ text (S._∷_ c s) = code c ∷ text s
 
 -- all that the frames compute with
 unfoldable pub framed : Unit {0}
-unfolding text toBits isNan all H.value H.glyph H.all-hex H.number H.digits H.bits D.header-formed D.header D.head-of
-    R.row-at R.row-formed R.rows-formed A.refusal-line A.report-line A.coefficient-lines
-    X.checked X.fit-of X.fit-lines X.answer-lines X.answer-to X.answer-of
+unfolding text toBits isNan all H.value H.glyph H.all-hex H.number-at H.digits H.bits D.header-formed D.header D.head-of
+    F.frame-at F.frame-formed F.frames-formed A.refusal-line A.report-line A.coefficient-lines
+    limits X.checked X.fit-asked X.fit-lines X.answer-lines X.answer-to X.answer-of
 framed = tt
 
 -- an empty input, a header with no newline, a digit too many, a carriage return, an uppercase digit, a solver that is not there
@@ -52,17 +53,17 @@ unfolding framed
 solver-03 = refl
 
 -- columns past their limit come first, then rows, then max_iter, all before a row that is missing
-pub columns : answer-of (text "01ffffffffff3fe00000000000000000000000000000\n") ≡ text "ff01\n"
+pub many-columns : answer-of (text "01ffffffffff3fe00000000000000000000000000000\n") ≡ text "ff01\n"
 unfolding framed
-columns = refl
+many-columns = refl
 
-pub rows : answer-of (text "01008110ffff3fe00000000000000000000000000000\n") ≡ text "ff02\n"
+pub many-rows : answer-of (text "01008110ffff3fe00000000000000000000000000000\n") ≡ text "ff02\n"
 unfolding framed
-rows = refl
+many-rows = refl
 
-pub rounds : answer-of (text "0100801003e93fe00000000000000000000000000000\n") ≡ text "ff03\n"
+pub many-rounds : answer-of (text "0100801003e93fe00000000000000000000000000000\n") ≡ text "ff03\n"
 unfolding framed
-rounds = refl
+many-rounds = refl
 
 pub row-missing : answer-of (text "0100801003e83fe00000000000000000000000000000\n") ≡ text "ff0b\n"
 unfolding framed

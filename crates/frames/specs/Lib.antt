@@ -1,4 +1,5 @@
 -- The exchange of the bench program. Assumes nothing.
+pub mod Limits
 pub mod Exchange
 pub mod Cases
 pub mod Within

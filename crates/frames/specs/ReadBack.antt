@@ -10,31 +10,32 @@ use lib.Ieee.{Float, nan, binary64, fits}
 use lib.Ieee.Bits.{ofBits-fits}
 use Rattle.steps.specs.Num.{at}
 use Rattle.steps.specs.Table.{tab}
-use Rattle.hex.specs.Hex.{number, float, digits, bits, newline}
+use Rattle.hex.specs.Hex.{number-at, float, digits, bits, newline}
 use Rattle.hex.specs.ReadBack.{length-digits, read-back, float-back}
 use Rattle.rule.specs.Rule.{Fit}
+use Rattle.rule.specs.Calls.{report-of}
 use Rattle.rule.specs.Codes.{stop-code}
 use Rattle.rule.specs.Rounded.{in-format, tab-column}
 use Rattle.rule.specs.Promises.{coefficients-fit}
+use Rattle.rule.specs.declared.Task.{Task}
 use Rattle.rule.specs.declared.Stop.{Stop}
 use Rattle.rule.specs.declared.Stop.the-variants.{NoData, FirstRefused, Empty, RefitRefused, Settled, OutOfRounds}
-use Rattle.writer.specs.Answer.{report-line, coefficient-lines}
+use Rattle.writer.specs.Answer.{report-line, report-bytes, coefficient-lines, coefficient-bytes}
 use Rattle.reader.specs.Header.{head-of}
 use Rattle.reader.specs.Rows.{target}
-use Rattle.frames.specs.Exchange.{checked, fit-of, fit-lines, answer-lines, answer-of}
-use Rattle.frames.specs.Cases.{answer-good, accepted}
+use Rattle.frames.specs.Exchange.{checked, fit-asked, fit-lines, answer-lines, answer-of}
+use Rattle.frames.specs.Cases.{answer-good, was-accepted}
 use Rattle.writer.specs.Lines.{lines-append, length-lines, length-report}
 use Rattle.frames.specs.Within.{refits-within, kept-within}
-use Rattle.reader.specs.declared.inner.header.Header.{Header}
 use Rattle.reader.specs.declared.inner.header.Head.the-variants.{Good}
 use Rattle.refusal.specs.declared.Answer.the-variants.{Done}
 
 -- what the digits of an answer say of a fit
 pub record Says (a : List ℕ) (f : Fit) : Type 0 where
-  pub stop : number a 0 2 ≡ stop-code (f .stop)
-  pub refits : number a 2 4 ≡ f .refits
-  pub kept : number a 6 16 ≡ f .kept
-  pub coefficient : (j : ℕ) → j < length (f .coeffs) → float a (23 + 17 * j) ≡ at (f .coeffs) j
+  pub stop : number-at a 0 2 ≡ stop-code (f .stop)
+  pub refits : number-at a 2 4 ≡ f .refits
+  pub kept : number-at a 6 16 ≡ f .kept
+  pub coefficient : (j : ℕ) → j < length (f .coeffs) → float a (report-bytes + coefficient-bytes * j) ≡ at (f .coeffs) j
 
 code-lt : (s : Stop) → stop-code s < 16 ^ 2
 code-lt NoData = lit< tt
@@ -45,7 +46,7 @@ code-lt Settled = lit< tt
 code-lt OutOfRounds = lit< tt
 
 -- a number whose digits stand in a text, and where
-number-in : (s before after : List ℕ) (a n w : ℕ) → s ≡ before ++ (digits n w ++ after) → length before ≡ a → w < 16 ^ n → number s a n ≡ w
+number-in : (s before after : List ℕ) (a n w : ℕ) → s ≡ before ++ (digits n w ++ after) → length before ≡ a → w < 16 ^ n → number-at s a n ≡ w
 number-in s before after a n w e len h = rw (e, ← len) (read-back n w before after h)
 
 -- the line of coefficient j has those of the coefficients before it in front
@@ -56,10 +57,11 @@ line-at xs j h =
     ∙ ap (λ (t : List ℕ). coefficient-lines (take j xs) ++ t) (append-snoc (digits 16 (bits (at xs j))) newline (coefficient-lines (drop (suc j) xs)))
 
 module _ (report : List ℕ) (xs : List Float) (j : ℕ) (h : j < length xs) (f : T (fits binary64 (at xs j))) where
-  coefficient-back : length report ≡ 23 → float (report ++ coefficient-lines xs) (23 + 17 * j) ≡ at xs j
+  coefficient-back : length report ≡ report-bytes → float (report ++ coefficient-lines xs) (report-bytes + coefficient-bytes * j) ≡ at xs j
   coefficient-back len =
       let before = report ++ coefficient-lines (take j xs) in
-      let place : length before ≡ 23 + 17 * j = omega (arith, len, length-append report (coefficient-lines (take j xs)), length-lines (take j xs), length-take-le j xs (let q : j ≤ length xs = omega arith in q)) in
+      let some : length (take j xs) ≡ j = length-take-le j xs (omega arith) in
+      let place : length before ≡ report-bytes + coefficient-bytes * j = omega (arith, len, length-append report (coefficient-lines (take j xs)), length-lines (take j xs), some) in
       rw (line-at xs j h, ← append-assoc report (coefficient-lines (take j xs)), ← place) (float-back (at xs j) before _ f)
 
 -- lines say what was written, where its digits hold it
@@ -73,19 +75,19 @@ lines-read-back f r k g =
       stop = number-in _ [] (refits ++ (digits 16 (f .kept) ++ lines)) 0 2 _ (simp append-assoc) refl (code-lt (f .stop));
       refits = number-in _ stop (digits 16 (f .kept) ++ lines) 2 4 _ (simp append-assoc) (length-digits 2 _) r;
       kept = number-in _ (stop ++ refits) lines 6 16 _ (simp append-assoc) (simp (length-append, length-digits)) k;
-      coefficient = λ j h. coefficient-back (report-line (f .stop) (f .refits) (f .kept)) (f .coeffs) j h (g j) (length-report (f .stop) (f .refits) (f .kept));
+      coefficient = λ j h. coefficient-back (report-line (report-of f)) (f .coeffs) j h (g j) (length-report (report-of f));
     }
 
 -- every coefficient of an input's fit is a binary64, since the digits of a target are read as one
-coefficients-held : (s : List ℕ) (h : Header) (j : ℕ) → T (fits binary64 (at (fit-of s h .coeffs) j))
-unfolding fit-of
-coefficients-held s h =
-    let read = tab-column in-format (h .rows) (target s (h .cols)) (λ r. ofBits-fits binary64 _) in
-    coefficients-fit (h .solver) _ (at (tab (h .rows) (target s (h .cols)))) (h .rows) (h .cols) (h .setup) (read .each)
+coefficients-held : (s : List ℕ) (task : Task) (j : ℕ) → T (fits binary64 (at (fit-asked s task .coeffs) j))
+unfolding fit-asked
+coefficients-held s task =
+    let read = tab-column in-format (task .rows) (target s (task .cols)) (λ r. ofBits-fits binary64 _) in
+    coefficients-fit task _ (at (tab (task .rows) (target s (task .cols)))) (read .each)
 
 -- the answer to an accepted input says its fit: the stop, the refits, the kept word, and each coefficient, a NaN as a NaN
-pub answer-read-back : (s : List ℕ) (h : Header) → head-of s ≡ Good h → checked s h ≡ Done → Says (answer-of s) (fit-of s h)
+pub answer-read-back : (s : List ℕ) (task : Task) → head-of s ≡ Good task → checked s task ≡ Done → Says (answer-of s) (fit-asked s task)
 unfolding answer-lines
-answer-read-back s h e c =
-    let ok = accepted s h c in
-    rw (answer-good s h Done e c) (lines-read-back (fit-of s h) (refits-within s h ok) (kept-within s h ok) (coefficients-held s h))
+answer-read-back s task e c =
+    let ok = was-accepted s task c in
+    rw (answer-good s task Done e c) (lines-read-back (fit-asked s task) (refits-within s task ok) (kept-within s task ok) (coefficients-held s task))

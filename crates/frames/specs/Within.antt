@@ -5,16 +5,16 @@ use native.Mathlib.Nat.{pow-le-pow-right, lt-of-le-of-lt, lt-of-lt-of-le}
 use native.Mathlib.Omega.{arith}
 use lib.Dec.{lit<}
 use Rattle.rule.specs.Promises.{refits-at-most, kept-below}
-use Rattle.frames.specs.Exchange.{Accepted, fit-of}
-use Rattle.reader.specs.declared.inner.header.Header.{Header}
+use Rattle.rule.specs.declared.Task.{Task}
+use Rattle.frames.specs.Exchange.{Accepted, fit-asked}
 
-module _ (s : List ℕ) (h : Header) (ok : Accepted s h) where
+module _ (s : List ℕ) (task : Task) (ok : Accepted s task) where
   -- at most 1,000 refits, in four digits
-  pub refits-within : fit-of s h .refits < 16 ^ 4
-  unfolding fit-of
-  refits-within = lt-of-le-of-lt (refits-at-most (h .solver) _ _ (h .rows) (h .cols) (h .setup)) (let q : h .setup .«max_iter» < 16 ^ 4 = omega (arith, ok .few-rounds) in q)
+  pub refits-within : fit-asked s task .refits < 16 ^ 4
+  unfolding fit-asked
+  refits-within = lt-of-le-of-lt (refits-at-most task _ _) (let q : task .setup .«max_iter» < 16 ^ 4 = omega (arith, ok .limited .few-rounds) in q)
 
   -- at most 16 terms, in sixteen digits
-  pub kept-within : fit-of s h .kept < 16 ^ 16
-  unfolding fit-of
-  kept-within = lt-of-lt-of-le (kept-below (h .solver) _ _ (h .rows) (h .cols) (h .setup)) (pow-le-pow-right {n = 2} (lit< tt) (let q : h .cols ≤ 64 = omega (arith, ok .rows-fine .few-cols) in q))
+  pub kept-within : fit-asked s task .kept < 16 ^ 16
+  unfolding fit-asked
+  kept-within = lt-of-lt-of-le (kept-below task _ _) (pow-le-pow-right {n = 2} (lit< tt) (let q : task .cols ≤ 64 = omega (arith, ok .limited .few-cols) in q))

@@ -22,9 +22,9 @@ unfoldable pub all-hex : List ℕ → ℕ → ℕ → Bool
 all-hex s a n = all (λ i. ltb (value (getD s (a + i) 0)) 16) n
 
 -- the number that the n digits of s from a on write
-unfoldable pub number : List ℕ → ℕ → ℕ → ℕ
-number s a zero = 0
-number s a (suc n) = number s a n * 16 + value (getD s (a + n) 0)
+unfoldable pub number-at : List ℕ → ℕ → ℕ → ℕ
+number-at s a zero = 0
+number-at s a (suc n) = number-at s a n * 16 + value (getD s (a + n) 0)
 
 -- s has n digits from a on
 pub record Digits (s : List ℕ) (a n : ℕ) : Type 0 where
@@ -33,7 +33,7 @@ pub record Digits (s : List ℕ) (a n : ℕ) : Type 0 where
 
 -- the f64 whose bits the 16 digits of s from a on write
 abbrev pub float : List ℕ → ℕ → Float
-float s a = lit (number s a 16)
+float s a = lit (number-at s a 16)
 
 -- the n digits of w
 unfoldable pub digits : ℕ → ℕ → List ℕ

@@ -9,7 +9,7 @@ use borrow.Author.Tests.{lt-ltb, le-ltb, ltb-true}
 use lib.Dec.{ltb}
 use lib.ListN.{getD}
 use Rattle.hex.specs.All.{all-none, all-more, all-end, all-not, all-at, all-each}
-use Rattle.hex.specs.Hex.{value, all-hex, number, Digits}
+use Rattle.hex.specs.Hex.{value, all-hex, number-at, Digits}
 
 module _ (s : List ℕ) (a : ℕ) where
   pub hex-none : all-hex s a 0 ≡ true
@@ -34,12 +34,12 @@ module _ (s : List ℕ) (a : ℕ) where
   unfolding all-hex
   hex-at n k g h = ltb-true _ 16 (all-at _ n k g h)
 
-  pub number-none : number s a 0 ≡ 0
-  unfolding number
+  pub number-none : number-at s a 0 ≡ 0
+  unfolding number-at
   number-none = refl
 
-  pub number-more : (i : ℕ) → number s a (i + 1) ≡ number s a i * 16 + value (getD s (a + i) 0)
-  unfolding number
+  pub number-more : (i : ℕ) → number-at s a (i + 1) ≡ number-at s a i * 16 + value (getD s (a + i) 0)
+  unfolding number-at
   number-more i = rw add-one
 
 -- a part of a run of digits is one

@@ -12,7 +12,7 @@ use lib.Seq.{getD-append-add, getD-at}
 use lib.Ieee.{Float, nan, inf, fin, binary64, fits, isNan, ofBits}
 use lib.Ieee.Bits.{ofBits-toBits, toBits-lt}
 use Rattle.hex.specs.Put.{Written}
-use Rattle.hex.specs.Hex.{value, glyph, number, digits, bits, float}
+use Rattle.hex.specs.Hex.{value, glyph, number-at, digits, bits, float}
 
 pub length-digits : (n w : ℕ) → length (digits n w) ≡ n
 unfolding digits
@@ -41,27 +41,27 @@ value-glyph d h = go (decLt d 10)
         simp (le-ltb d 10 g, le-ltb (87 + d) 48 b, lt-leb (87 + d) 57 t, le-ltb (87 + d) 97 u, le-leb (87 + d) 102 v) (omega arith)
 
 -- digits that stand within a longer text write the same number
-number-within : (p s q : List ℕ) (n : ℕ) → n ≤ length s → number (p ++ (s ++ q)) (length p) n ≡ number s 0 n
-unfolding number
+number-within : (p s q : List ℕ) (n : ℕ) → n ≤ length s → number-at (p ++ (s ++ q)) (length p) n ≡ number-at s 0 n
+unfolding number-at
 number-within p s q zero h = refl
 number-within p s q (suc n) h =
     let byte : getD (p ++ (s ++ q)) (length p + n) 0 ≡ getD s (0 + n) 0
     = getD-append-add p (s ++ q) n 0 ∙ List·getD-append s q 0 n h ∙ ap (λ (k : ℕ). getD s k 0) (sym (zero-add n)) in
     ap₂ (λ (x y : ℕ). x * 16 + value y) (number-within p s q n (omega arith)) byte
 
-number-digits : (n w : ℕ) → w < 16 ^ n → number (digits n w) 0 n ≡ w
-unfolding number digits
+number-digits : (n w : ℕ) → w < 16 ^ n → number-at (digits n w) 0 n ≡ w
+unfolding number-at digits
 number-digits zero w h = omega arith
 number-digits (suc n) w h =
     let high = digits n (w / 16) in
-    let front : number (high ++ (glyph (w % 16) ∷ [])) 0 n ≡ w / 16
+    let front : number-at (high ++ (glyph (w % 16) ∷ [])) 0 n ≡ w / 16
     = number-within [] high (glyph (w % 16) ∷ []) n (omega (arith, length-digits n (w / 16))) ∙ number-digits n (w / 16) (omega (arith, pow-suc 16 n)) in
     let last : value (getD (high ++ (glyph (w % 16) ∷ [])) (0 + n) 0) ≡ w % 16
     = ap value (getD-at high (glyph (w % 16)) [] 0 (0 + n) (length-digits n (w / 16) ∙ sym (zero-add n))) ∙ value-glyph (w % 16) (omega arith) in
     omega (arith, front, last)
 
 -- the number of the n digits of w is w, whatever stands before and after them
-pub read-back : (n w : ℕ) (before after : List ℕ) → w < 16 ^ n → number (before ++ (digits n w ++ after)) (length before) n ≡ w
+pub read-back : (n w : ℕ) (before after : List ℕ) → w < 16 ^ n → number-at (before ++ (digits n w ++ after)) (length before) n ≡ w
 read-back n w before after h = number-within before (digits n w) after n (omega (arith, length-digits n w)) ∙ number-digits n w h
 
 -- the bits of an f64 give it back: of one that is no NaN they are its own, and those of a NaN are a NaN's

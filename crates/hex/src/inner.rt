@@ -2,8 +2,21 @@
 ghost use mathlib.Core.Path.{_≡_};
 ghost use Prim.Native.Nat.{_+_, _≤_, _<_};
 ghost use lib.ListN.{length};
-ghost use Rattle.hex.specs.Hex.{value as value-of, glyph as glyph-of, all-hex, number as number-of, Digits, float as float-at, digits, bits as bits-of, line};
+ghost use Rattle.hex.specs.Hex.{value as value-of, glyph as glyph-of, all-hex, number-at as number-of, Digits, float as float-at, digits, bits as bits-of, line};
 ghost use Rattle.hex.specs.Put.{Written};
+
+// A cast of a parameter asks nothing.
+pub fn size(x: u64) -> usize
+    ensures { λ r. ⌜ r ≡ x ⌝ }
+{
+    x as usize
+}
+
+pub fn wide(x: usize) -> u64
+    ensures { λ r. ⌜ r ≡ x ⌝ }
+{
+    x as u64
+}
 
 // A digit's value, and 16 for any other byte.
 fn value(b: u8) -> u64
@@ -51,7 +64,7 @@ pub fn all_hex(s: &[u8], at: usize, n: usize) -> bool
 }
 
 // The number that the n digits from `at` on write.
-pub fn number(s: &[u8], at: usize, n: usize) -> u64
+pub fn number_at(s: &[u8], at: usize, n: usize) -> u64
     requires { ⌜ Digits (now s) at n × (n ≤ 16) ⌝ }
     ensures { λ r. ⌜ r ≡ number-of (now (s .entry)) at n ⌝ }
 {
@@ -67,7 +80,7 @@ pub fn float(s: &[u8], at: usize) -> f64
     requires { ⌜ Digits (now s) at 16 ⌝ }
     ensures { λ r. ⌜ r ≡ float-at (now (s .entry)) at ⌝ }
 {
-    let bits = number(s, at, 16);
+    let bits = number_at(s, at, 16);
     if bits % 0x8000_0000_0000_0000 > 0x7ff0_0000_0000_0000 {
         return 0.0 / 0.0;
     }

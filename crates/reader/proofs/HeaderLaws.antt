@@ -9,10 +9,10 @@ use lib.Dec.{leb}
 use lib.ListN.{length}
 use Rattle.hex.specs.All.{and-both}
 use Rattle.hex.specs.Hex.{all-hex, Digits}
-use Rattle.reader.specs.Header.{header-formed}
+use Rattle.reader.specs.Header.{header-digits, header-frame, header-formed}
 
-pub header-digits : (s : List ℕ) → header-formed s ≡ true → Digits s 0 44
+pub header-has : (s : List ℕ) → header-formed s ≡ true → Digits s 0 header-digits
 unfolding header-formed
-header-digits s h =
-    let long = and-both (leb 45 (length s)) _ h in
-    record { within = omega (arith, leb-true 45 (length s) (long .0)); good = and-both (all-hex s 0 44) _ (long .1) .0 }
+header-has s h =
+    let long = and-both (leb header-frame (length s)) _ h in
+    record { within = omega (arith, leb-true header-frame (length s) (long .0)); good = and-both (all-hex s 0 header-digits) _ (long .1) .0 }

@@ -1,3 +1,4 @@
 -- Laws of the frames of an input. Assumes nothing.
 mod HeaderLaws
+mod FrameLaws
 mod RowLaws

@@ -1,3 +1,4 @@
-// A reader of rows may require what its caller has tested.
+// A reader of frames may require what its caller has tested.
+pub mod frames;
 pub mod header;
 pub mod rows;

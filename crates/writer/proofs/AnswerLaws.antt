@@ -13,9 +13,9 @@ use Rattle.hex.specs.ReadBack.{length-digits}
 use Rattle.refusal.specs.Answers.{number}
 use Rattle.refusal.specs.declared.Refusal.{Refusal}
 use Rattle.rule.specs.Codes.{stop-code}
-use Rattle.rule.specs.declared.Stop.{Stop}
+use Rattle.rule.specs.declared.Report.{Report}
 use Rattle.writer.specs.Lines.{lines-append}
-use Rattle.writer.specs.Answer.{refusal-line, report-line, coefficient-lines}
+use Rattle.writer.specs.Answer.{refusal-line, report-line, coefficient-lines, coefficient-bytes}
 
 -- the pieces of a refusal's line
 pub refusal-written : {n m r : ℕ} {was mid out : List ℕ} (w : Refusal) → n ≡ number w → Written 0 (digits 2 0xff) was mid m → Written m (line 2 n) mid out r → Written 0 (refusal-line w) was out r
@@ -23,9 +23,10 @@ unfolding refusal-line
 refusal-written w e f g = written-then (omega arith) f (rw e at g)
 
 -- the pieces of a report's line
-pub report-written : {code count m k r : ℕ} {was mid end out : List ℕ} (stop : Stop) (refits kept : ℕ) → code ≡ stop-code stop → count ≡ refits → Written 0 (digits 2 code) was mid m → Written m (digits 4 count) mid end k → Written k (line 16 kept) end out r → Written 0 (report-line stop refits kept) was out r
+pub report-written : {code count m k r : ℕ} {was mid end out : List ℕ} (report : Report) → code ≡ stop-code (report .stop) → count ≡ report .refits
+    → Written 0 (digits 2 code) was mid m → Written m (digits 4 count) mid end k → Written k (line 16 (report .kept .0)) end out r → Written 0 (report-line report) was out r
 unfolding report-line
-report-written stop refits kept e e' f g h = written-then (omega arith) (written-then (omega arith) (rw e at f) (rw e' at g)) h
+report-written report e e' f g h = written-then (omega arith) (written-then (omega arith) (rw e at f) (rw e' at g)) h
 
 -- the lines of one coefficient
 one-line : (x : Float) → coefficient-lines (x ∷ []) ≡ line 16 (bits x)
@@ -41,7 +42,7 @@ module _ (xs : List Float) (a : ℕ) (was : List ℕ) where
   pub record Lines (j : ℕ) (out : List ℕ) (next : ℕ) : Type 0 where
     pub some : j ≤ length xs
     pub long : length out ≡ length was
-    pub place : next ≡ a + 17 * j
+    pub place : next ≡ a + coefficient-bytes * j
     pub lines : Written a (coefficient-lines (take j xs)) was out next
 
   pub lines-none : Lines 0 was a

@@ -7,19 +7,19 @@ use lib.ListN.{length, length-append}
 use lib.Ieee.{Float}
 use Rattle.hex.specs.Hex.{digits, bits, line, newline}
 use Rattle.hex.specs.ReadBack.{length-digits}
-use Rattle.rule.specs.declared.Stop.{Stop}
-use Rattle.writer.specs.Answer.{report-line, coefficient-lines}
+use Rattle.rule.specs.declared.Report.{Report}
+use Rattle.writer.specs.Answer.{report-line, report-bytes, coefficient-lines, coefficient-bytes}
 
 pub lines-append : (xs ys : List Float) → coefficient-lines (xs ++ ys) ≡ coefficient-lines xs ++ coefficient-lines ys
 unfolding coefficient-lines
 lines-append [] ys = refl
 lines-append (x ∷ xs) ys = ap (λ (t : List ℕ). line 16 (bits x) ++ t) (lines-append xs ys) ∙ sym (append-assoc (line 16 (bits x)) (coefficient-lines xs) (coefficient-lines ys))
 
-pub length-lines : (xs : List Float) → length (coefficient-lines xs) ≡ 17 * length xs
+pub length-lines : (xs : List Float) → length (coefficient-lines xs) ≡ coefficient-bytes * length xs
 unfolding coefficient-lines
 length-lines [] = refl
 length-lines (x ∷ xs) = omega (arith, length-append (line 16 (bits x)) (coefficient-lines xs), length-append (digits 16 (bits x)) (newline ∷ []), length-digits 16 (bits x), length-lines xs)
 
-pub length-report : (stop : Stop) (refits kept : ℕ) → length (report-line stop refits kept) ≡ 23
+pub length-report : (r : Report) → length (report-line r) ≡ report-bytes
 unfolding report-line
-length-report stop refits kept = simp (length-append, length-digits)
+length-report r = simp (length-append, length-digits)

@@ -4,16 +4,15 @@ ghost use Prim.Native.Nat.{_+_, _*_, _≤_};
 ghost use mathlib.Core.List.{_++_};
 ghost use lib.ListN.{length};
 ghost use Rattle.hex.specs.Put.{Written};
-ghost use Rattle.writer.specs.Answer.{refusal-line, report-line, coefficient-lines};
+ghost use Rattle.writer.specs.Answer.{report-bytes, coefficient-bytes, refusal-line, report-line, coefficient-lines};
+use hex::inner::wide;
 use refusal::Refusal;
 use rule::Report;
 
-// A cast of a parameter asks nothing.
-fn wide(x: usize) -> u64
-    ensures { λ r. ⌜ r ≡ x ⌝ }
-{
-    x as u64
-}
+// The bytes of a report's line, and of a coefficient's.
+pub const REPORT_BYTES: usize = 2 + 4 + 16 + 1;
+
+pub const COEFFICIENT_BYTES: usize = 16 + 1;
 
 // `ff` and the refusal's number.
 pub fn write_refusal(w: Refusal, out: &mut [u8]) -> usize
@@ -26,8 +25,8 @@ pub fn write_refusal(w: Refusal, out: &mut [u8]) -> usize
 
 // Stop, refits and kept word.
 fn write_status(report: Report, out: &mut [u8]) -> usize
-    requires { ⌜ 23 ≤ length (now out) ⌝ }
-    ensures { λ r. ⌜ Written 0 (report-line (report .stop) (report .refits) (report .kept .0)) (now (out .entry)) (now (out .exit)) r ⌝ }
+    requires { ⌜ report-bytes ≤ length (now out) ⌝ }
+    ensures { λ r. ⌜ Written 0 (report-line report) (now (out .entry)) (now (out .exit)) r ⌝ }
 {
     let stop = report.stop;
     let kept = report.kept;
@@ -38,7 +37,7 @@ fn write_status(report: Report, out: &mut [u8]) -> usize
 
 // A line per coefficient, from `at` on.
 fn write_coefficients(coeffs: &[f64], out: &mut [u8], at: usize) -> usize
-    requires { ⌜ at + 17 * length (now coeffs) ≤ length (now out) ⌝ }
+    requires { ⌜ at + coefficient-bytes * length (now coeffs) ≤ length (now out) ⌝ }
     ensures { λ r. ⌜ Written at (coefficient-lines (now (coeffs .entry))) (now (out .entry)) (now (out .exit)) r ⌝ }
 {
     let mut next = at;
@@ -50,8 +49,8 @@ fn write_coefficients(coeffs: &[f64], out: &mut [u8], at: usize) -> usize
 
 // The report's line, then a line per coefficient.
 pub fn write_fit(report: Report, coeffs: &[f64], out: &mut [u8]) -> usize
-    requires { ⌜ 23 + 17 * length (now coeffs) ≤ length (now out) ⌝ }
-    ensures { λ r. ⌜ Written 0 (report-line (report .stop) (report .refits) (report .kept .0) ++ coefficient-lines (now (coeffs .entry))) (now (out .entry)) (now (out .exit)) r ⌝ }
+    requires { ⌜ report-bytes + coefficient-bytes * length (now coeffs) ≤ length (now out) ⌝ }
+    ensures { λ r. ⌜ Written 0 (report-line report ++ coefficient-lines (now (coeffs .entry))) (now (out .entry)) (now (out .exit)) r ⌝ }
 {
     let at = write_status(report, out);
     write_coefficients(coeffs, out, at)

@@ -53,17 +53,5 @@ returns-2 c = search needs
 
 pub main-spec : {M : Type 1} → statement M
 main-spec =
-    tie.close
-    (tie.spec
-    slice-aggregate-read-whole
-    read-whole-requires
-    enum-known-n
-    enum-told
-    returns
-    array-share-prefix-room
-    slice-aggregate-respond
-    respond-requires
-    array-share-prefix-answer
-    slice-aggregate-write-all
-    write-all-requires
-    returns-2)
+    tie.close (tie.spec slice-aggregate-read-whole read-whole-requires enum-known-n enum-told returns array-share-prefix-room slice-aggregate-respond
+    respond-requires array-share-prefix-answer slice-aggregate-write-all write-all-requires returns-2)

@@ -5,20 +5,20 @@ use borrow.Author.Needs.{needs}
 use Rattle.reader.specs.Header.{head-of}
 use Rattle.frames.specs.Exchange.{answer-lines}
 use Rattle.reader.specs.declared.inner.header.Head.the-variants.{Good}
-use Rattle.frames.specs.Cases.{answer-wrong, answer-good, accepted}
+use Rattle.frames.specs.Cases.{answer-wrong, answer-good, was-accepted}
 use Rattle.frames.proofs.ExchangeLaws.{exchange}
 use Rattle.frames.proofs.respond.Statement.{statement}
 use Rattle.frames.proofs.respond.Tie as tie
 
 -- what was read of a good header
-head : (c : tie.After-h) → head-of (c .before .before .before .before .args .input .now) ≡ Good (c .h .given .0 .0)
-head c = sym (c .before .before .read-header .ensures) ∙ c .h .given .1
+head : (c : tie.After-task) → head-of (c .before .before .before .before .args .input .now) ≡ Good (c .task .given .0 .0)
+head c = sym (c .before .before .read-header .ensures) ∙ c .task .given .1
 
 read-header-requires : tie.Need-read-header-requires
 read-header-requires c κs = search needs
 
-enum-known-h : tie.Need-enum-known-h
-enum-known-h c = search needs
+enum-known-task : tie.Need-enum-known-task
+enum-known-task c = search needs
 
 enum-told : tie.Need-enum-told
 enum-told c = search needs
@@ -40,7 +40,7 @@ enum-told-2 c = search needs
 fit-rows-requires : tie.Need-fit-rows-requires
 fit-rows-requires c κs =
     let checked = c .before .before .before in
-    (accepted _ _ (sym (checked .check .ensures) ∙ c .before .enum-told2 .given .1), omega arith)
+    (was-accepted _ _ (sym (checked .check .ensures) ∙ c .before .enum-told2 .given .1), omega arith)
 
 enum-known-w : tie.Need-enum-known-w
 enum-known-w c = search needs
@@ -62,4 +62,6 @@ returns-3 c =
     exchange (answer-good _ _ _ (head (checked .before .before)) (sym (checked .check .ensures) ∙ refused .w .given .1)) (c .write-refusal2 .ensures)
 
 pub respond-spec : {M : Type 1} → statement M
-respond-spec = tie.close (tie.spec read-header-requires enum-known-h enum-told write-refusal-requires returns check-requires enum-told-2 fit-rows-requires enum-known-w write-refusal-requires-2 returns-2 returns-3)
+respond-spec =
+    tie.close (tie.spec read-header-requires enum-known-task enum-told write-refusal-requires returns check-requires enum-told-2 fit-rows-requires
+    enum-known-w write-refusal-requires-2 returns-2 returns-3)

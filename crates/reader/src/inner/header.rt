@@ -1,55 +1,47 @@
 // The header's frame.
 ghost use mathlib.Core.Path.{_≡_};
 ghost use Rattle.hex.specs.Hex.{Digits};
-ghost use Rattle.reader.specs.Header.{header-formed, header, head-of};
+ghost use Rattle.reader.specs.Header.{header-digits, header-formed, header, head-of};
+use hex::inner::size;
 use rule::Setup;
 use rule::Solver;
+use rule::Task;
 
-// What a header says: the solver, the sizes, and the setup.
-pub struct Header {
-    pub solver: Solver,
-    pub rows: usize,
-    pub cols: usize,
-    pub setup: Setup,
-}
+// The header's digits, and its frame: these and a newline.
+const DIGITS: usize = 44;
 
-// A header that was read, or a malformed one.
+pub const FRAME: usize = DIGITS + 1;
+
+// What a header asks for, or a malformed one.
 pub enum Head {
-    Good(Header),
+    Good(Task),
     Wrong,
 }
 
-// A cast of a parameter asks nothing.
-fn size(x: u64) -> usize
-    ensures { λ r. ⌜ r ≡ x ⌝ }
-{
-    x as usize
-}
-
-// Whether the input begins with 44 digits and a newline.
+// Whether the input begins with a header's digits and a newline.
 fn formed(s: &[u8]) -> bool
     ensures { λ r. ⌜ r ≡ header-formed (now (s .entry)) ⌝ }
 {
-    if s.len() < 45 {
+    if s.len() < FRAME {
         return false;
     }
-    if !hex::inner::all_hex(s, 0, 44) {
+    if !hex::inner::all_hex(s, 0, DIGITS) {
         return false;
     }
-    s[44] == 10
+    s[DIGITS] == 10
 }
 
 // What the digits after the solver's say.
-fn fields(s: &[u8], solver: Solver) -> Header
-    requires { ⌜ Digits (now s) 0 44 ⌝ }
+fn fields(s: &[u8], solver: Solver) -> Task
+    requires { ⌜ Digits (now s) 0 header-digits ⌝ }
     ensures { λ r. ⌜ r ≡ header (now (s .entry)) solver ⌝ }
 {
-    let rows = size(hex::inner::number(s, 2, 4));
-    let cols = size(hex::inner::number(s, 6, 2));
-    let max_iter = size(hex::inner::number(s, 8, 4));
+    let rows = size(hex::inner::number_at(s, 2, 4));
+    let cols = size(hex::inner::number_at(s, 6, 2));
+    let max_iter = size(hex::inner::number_at(s, 8, 4));
     let threshold = hex::inner::float(s, 12);
     let lambda = hex::inner::float(s, 28);
-    Header {
+    Task {
         solver,
         rows,
         cols,
@@ -67,7 +59,7 @@ pub fn read_header(s: &[u8]) -> Head
     if !formed(s) {
         return Head::Wrong;
     }
-    let code = hex::inner::number(s, 0, 2);
+    let code = hex::inner::number_at(s, 0, 2);
     if code == 1 {
         return Head::Good(fields(s, Solver::Normal));
     }

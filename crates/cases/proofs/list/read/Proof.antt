@@ -83,27 +83,5 @@ returns-3 c = counts _ _ (omega arith)
 
 pub read-spec : {M : Type 1} → statement M
 read-spec =
-    tie.close
-    (tie.spec
-    Inv-loop
-    μ-loop
-    loop-holds
-    sub-smaller
-    smaller-requires
-    add-end
-    sub-read-whole
-    part-read-whole-start
-    part-read-whole-end
-    read-whole-requires
-    enum-known-k
-    enum-told
-    same-length
-    returns
-    same-length-2
-    returns-2
-    add-n
-    add-size
-    loop-less
-    loop-again
-    same-length-3
-    returns-3)
+    tie.close (tie.spec Inv-loop μ-loop loop-holds sub-smaller smaller-requires add-end sub-read-whole part-read-whole-start part-read-whole-end
+    read-whole-requires enum-known-k enum-told same-length returns same-length-2 returns-2 add-n add-size loop-less loop-again same-length-3 returns-3)

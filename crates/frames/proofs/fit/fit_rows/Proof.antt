@@ -1,28 +1,28 @@
 -- `fit_rows` lends on what was read: theta and target as the definition has them.
 use native.Mathlib.Omega.{arith}
 use borrow.Author.Needs.{needs}
-use Rattle.frames.proofs.Accepted.{theta-room, read-sizes, read-fit}
+use Rattle.frames.proofs.Accepted.{theta-room, rows-fine, read-sizes, read-fit}
 use Rattle.frames.proofs.fit.fit_rows.Statement.{statement}
 use Rattle.frames.proofs.fit.fit_rows.Tie as tie
 
 mul-n : tie.Need-mul-n
-mul-n c = omega (arith, theta-room (c .before .before .pre .0 .rows-fine))
+mul-n c = omega (arith, theta-room (c .before .before .pre .0 .limited))
 
 slice-aggregate-read-theta : tie.Need-slice-aggregate-read-theta
 slice-aggregate-read-theta c = search needs
 
 read-theta-requires : tie.Need-read-theta-requires
 read-theta-requires c κs =
-    let rows-fine = c .before .before .before .pre .0 .rows-fine in
-    (rows-fine, theta-room rows-fine)
+    let ok = c .before .before .before .pre .0 in
+    (rows-fine ok, theta-room (ok .limited))
 
 slice-aggregate-read-target : tie.Need-slice-aggregate-read-target
 slice-aggregate-read-target c = search needs
 
 read-target-requires : tie.Need-read-target-requires
 read-target-requires c κs =
-    let rows-fine = c .before .before .before .before .before .before .pre .0 .rows-fine in
-    (rows-fine, rows-fine .few-rows)
+    let ok = c .before .before .before .before .before .before .pre .0 in
+    (rows-fine ok, ok .limited .few-rows)
 
 sub-fit-read : tie.Need-sub-fit-read
 sub-fit-read c = search needs
@@ -33,7 +33,7 @@ part-fit-read-start c = search needs
 part-fit-read-end : tie.Need-part-fit-read-end
 part-fit-read-end c =
     let start = c .before .before .before .before .before .before .before .before .before in
-    omega (arith, theta-room (start .pre .0 .rows-fine))
+    omega (arith, theta-room (start .pre .0 .limited))
 
 sub-fit-read-2 : tie.Need-sub-fit-read-2
 sub-fit-read-2 c = search needs
@@ -49,7 +49,7 @@ fit-read-requires c κs =
     let after-target = c .before .before .before .before .before .before in
     let after-theta = after-target .before .before .before in
     let start = after-theta .before .before .before .before in
-    (read-sizes _ _ _ _ (start .pre .0) (after-theta .read-theta .ensures) (after-target .read-target .ensures), omega arith)
+    (start .pre .0 .limited, read-sizes _ _ _ _ (after-theta .read-theta .ensures) (after-target .read-target .ensures) (start .pre .0), omega arith)
 
 same-length : tie.Need-same-length
 same-length c = search needs
@@ -60,7 +60,10 @@ returns c =
     let after-target = at-fit-read .before .before .before .before .before .before .before in
     let after-theta = after-target .before .before .before in
     let start = after-theta .before .before .before .before in
-    rw (read-fit _ _ _ _ (start .pre .0) (after-theta .read-theta .ensures) (after-target .read-target .ensures)) at (at-fit-read .fit-read .ensures)
+    let same = read-fit (start .args .s .now) (start .args .task) _ _ (after-theta .read-theta .ensures) (after-target .read-target .ensures) in
+    rw same at (at-fit-read .fit-read .ensures)
 
 pub fit-rows-spec : {M : Type 1} → statement M
-fit-rows-spec = tie.close (tie.spec mul-n slice-aggregate-read-theta read-theta-requires slice-aggregate-read-target read-target-requires sub-fit-read part-fit-read-start part-fit-read-end sub-fit-read-2 part-fit-read-start-2 part-fit-read-end-2 fit-read-requires same-length returns)
+fit-rows-spec =
+    tie.close (tie.spec mul-n slice-aggregate-read-theta read-theta-requires slice-aggregate-read-target read-target-requires sub-fit-read
+    part-fit-read-start part-fit-read-end sub-fit-read-2 part-fit-read-start-2 part-fit-read-end-2 fit-read-requires same-length returns)

@@ -6,17 +6,17 @@ use Rattle.hex.proofs.Floats.{zero-over-zero, pattern-nan, pattern-fine
 use Rattle.hex.proofs.inner.float.Statement.{statement}
 use Rattle.hex.proofs.inner.float.Tie as tie
 
-number-requires : tie.Need-number-requires
-number-requires c κs = search needs
+number-at-requires : tie.Need-number-at-requires
+number-at-requires c κs = search needs
 
 returns : tie.Need-returns
-returns c = zero-over-zero ∙ sym (pattern-nan _ (c .if1 .taken)) ∙ ap (ofBits binary64) (c .before .number .ensures)
+returns c = zero-over-zero ∙ sym (pattern-nan _ (c .if1 .taken)) ∙ ap (ofBits binary64) (c .before .number-at .ensures)
 
 float-from-bits-result : tie.Need-float-from-bits-result
 float-from-bits-result c = pattern-fine _ (c .if1 .left)
 
 returns-2 : tie.Need-returns-2
-returns-2 c = ap (ofBits binary64) (c .before .number .ensures)
+returns-2 c = ap (ofBits binary64) (c .before .number-at .ensures)
 
 pub float-spec : {M : Type 1} → statement M
-float-spec = tie.close (tie.spec number-requires returns float-from-bits-result returns-2)
+float-spec = tie.close (tie.spec number-at-requires returns float-from-bits-result returns-2)

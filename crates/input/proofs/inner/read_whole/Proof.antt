@@ -111,25 +111,5 @@ returns-3 c = counts _ _ (omega arith)
 
 pub read-whole-spec : {M : Type 1} → statement M
 read-whole-spec =
-    tie.close
-    (tie.spec
-    Inv-loop
-    μ-loop
-    loop-holds
-    sub-left
-    sub-read
-    part-read-start
-    part-read-end
-    read-requires
-    after-read-requires
-    enum-known-k
-    loop-less
-    loop-again
-    enum-told
-    same-length
-    returns
-    enum-told-2
-    same-length-2
-    returns-2
-    same-length-3
-    returns-3)
+    tie.close (tie.spec Inv-loop μ-loop loop-holds sub-left sub-read part-read-start part-read-end read-requires after-read-requires enum-known-k
+    loop-less loop-again enum-told same-length returns enum-told-2 same-length-2 returns-2 same-length-3 returns-3)

@@ -47,4 +47,6 @@ returns : tie.Need-returns Inv-loop μ-loop
 returns c = lines-end _ _ _ (omega arith) (c .before .loop .inv)
 
 pub write-coefficients-spec : {M : Type 1} → statement M
-write-coefficients-spec = tie.close (tie.spec Inv-loop μ-loop loop-holds mul-bits shared-slice-read-bits bits-requires write-line-requires add-j loop-less loop-again same-length returns)
+write-coefficients-spec =
+    tie.close (tie.spec Inv-loop μ-loop loop-holds mul-bits shared-slice-read-bits bits-requires write-line-requires add-j loop-less loop-again
+    same-length returns)

@@ -13,8 +13,7 @@ write-coefficients-requires : tie.Need-write-coefficients-requires
 write-coefficients-requires c κs =
     let at-write-status = c .before .before .before in
     let start = at-write-status .before .before .before .before in
-    let report = start .args .report in
-    omega (arith, at-write-status .write-status .ensures .place, length-report (report .stop) (report .refits) (report .kept .0))
+    omega (arith, at-write-status .write-status .ensures .place, length-report (start .args .report))
 
 same-length : tie.Need-same-length
 same-length c = search needs

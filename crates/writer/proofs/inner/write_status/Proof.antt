@@ -32,7 +32,7 @@ returns c =
     let at-write-line = c .before .before in
     let after-refits = at-write-line .before .before .before .before in
     let after-stop = after-refits .before .before .before .before .before in
-    report-written _ _ _ (after-stop .before .before .stop-code .ensures) (after-refits .before .before .wide .ensures)
+    report-written _ (after-stop .before .before .stop-code .ensures) (after-refits .before .before .wide .ensures)
     (after-stop .write-hex .ensures) (after-refits .write-hex2 .ensures) (at-write-line .write-line .ensures)
 
 pub write-status-spec : {M : Type 1} → statement M

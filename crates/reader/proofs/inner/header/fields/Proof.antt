@@ -1,4 +1,4 @@
--- `fields` reads each number where its definition has it: all within the 44 digits.
+-- `fields` reads each number where its definition has it: all within its digits.
 use native.Mathlib.Omega.{arith}
 use borrow.Author.Needs.{needs}
 use Rattle.hex.specs.Parts.{part-digits}
@@ -6,20 +6,20 @@ use Rattle.reader.specs.Header.{header}
 use Rattle.reader.proofs.inner.header.fields.Statement.{statement}
 use Rattle.reader.proofs.inner.header.fields.Tie as tie
 
-number-requires : tie.Need-number-requires
-number-requires c κs = (part-digits 2 4 (c .before .pre) (omega arith) (omega arith), omega arith)
+number-at-requires : tie.Need-number-at-requires
+number-at-requires c κs = (part-digits 2 4 (c .before .pre) (omega arith) (omega arith), omega arith)
 
 size-requires : tie.Need-size-requires
 size-requires c κs = search needs
 
-number-requires-2 : tie.Need-number-requires-2
-number-requires-2 c κs = (part-digits 6 2 (c .before .before .before .pre) (omega arith) (omega arith), omega arith)
+number-at-requires-2 : tie.Need-number-at-requires-2
+number-at-requires-2 c κs = (part-digits 6 2 (c .before .before .before .pre) (omega arith) (omega arith), omega arith)
 
 size-requires-2 : tie.Need-size-requires-2
 size-requires-2 c κs = search needs
 
-number-requires-3 : tie.Need-number-requires-3
-number-requires-3 c κs = (part-digits 8 4 (c .before .before .before .before .before .pre) (omega arith) (omega arith), omega arith)
+number-at-requires-3 : tie.Need-number-at-requires-3
+number-at-requires-3 c κs = (part-digits 8 4 (c .before .before .before .before .before .pre) (omega arith) (omega arith), omega arith)
 
 size-requires-3 : tie.Need-size-requires-3
 size-requires-3 c κs = search needs
@@ -39,14 +39,16 @@ returns c =
     let after-rows = after-cols .before .before in
     rw (
       after-rows .size .ensures,
-      after-rows .before .number .ensures,
+      after-rows .before .number-at .ensures,
       after-cols .size2 .ensures,
-      after-cols .before .number2 .ensures,
+      after-cols .before .number-at2 .ensures,
       after-limit .size3 .ensures,
-      after-limit .before .number3 .ensures,
+      after-limit .before .number-at3 .ensures,
       at-float .float .ensures,
       c .float2 .ensures,
     )
 
 pub fields-spec : {M : Type 1} → statement M
-fields-spec = tie.close (tie.spec number-requires size-requires number-requires-2 size-requires-2 number-requires-3 size-requires-3 float-requires float-requires-2 returns)
+fields-spec =
+    tie.close (tie.spec number-at-requires size-requires number-at-requires-2 size-requires-2 number-at-requires-3 size-requires-3 float-requires
+    float-requires-2 returns)

@@ -6,8 +6,8 @@ use borrow.Author.Needs.{needs}
 use borrow.Author.Tests.{eq-eqb, ne-eqb, not-true, not-false}
 use Rattle.hex.specs.Hex.{Digits}
 use Rattle.hex.specs.Parts.{part-digits}
-use Rattle.reader.specs.Header.{header-formed, head-of}
-use Rattle.reader.proofs.HeaderLaws.{header-digits}
+use Rattle.reader.specs.Header.{header-digits, header-formed, head-of}
+use Rattle.reader.proofs.HeaderLaws.{header-has}
 use Rattle.reader.proofs.inner.header.read_header.Statement.{statement}
 use Rattle.reader.proofs.inner.header.read_header.Tie as tie
 
@@ -15,8 +15,8 @@ use Rattle.reader.proofs.inner.header.read_header.Tie as tie
 is-formed : (c : tie.Else1) → header-formed (c .before .before .before .args .s .now) ≡ true
 is-formed c = sym (c .before .formed .ensures) ∙ not-false _ (c .if1 .left)
 
-digits : (c : tie.Else1) → Digits (c .before .before .before .args .s .now) 0 44
-digits c = header-digits _ (is-formed c)
+digits : (c : tie.Else1) → Digits (c .before .before .before .args .s .now) 0 header-digits
+digits c = header-has _ (is-formed c)
 
 formed-requires : tie.Need-formed-requires
 formed-requires c κs = search needs
@@ -25,8 +25,8 @@ returns : tie.Need-returns
 unfolding head-of
 returns c = simp (sym (c .before .formed .ensures) ∙ not-true _ (c .if1 .taken))
 
-number-requires : tie.Need-number-requires
-number-requires c κs = (part-digits 0 2 (digits c) (omega arith) (omega arith), omega arith)
+number-at-requires : tie.Need-number-at-requires
+number-at-requires c κs = (part-digits 0 2 (digits c) (omega arith) (omega arith), omega arith)
 
 fields-requires : tie.Need-fields-requires
 fields-requires c κs = digits (c .before .before)
@@ -35,7 +35,7 @@ returns-2 : tie.Need-returns-2
 unfolding head-of
 returns-2 c =
     let tested = c .before .before .before in
-    simp (is-formed tested, eq-eqb _ _ (sym (c .before .before .number .ensures) ∙ c .before .if2 .taken), ← c .fields .ensures)
+    simp (is-formed tested, eq-eqb _ _ (sym (c .before .before .number-at .ensures) ∙ c .before .if2 .taken), ← c .fields .ensures)
 
 fields-requires-2 : tie.Need-fields-requires-2
 fields-requires-2 c κs = digits (c .before .before .before)
@@ -44,13 +44,13 @@ returns-3 : tie.Need-returns-3
 unfolding head-of
 returns-3 c =
     let tested = c .before .before .before .before in
-    simp (is-formed tested, ← c .before .before .before .number .ensures, ne-eqb _ _ (c .before .before .if2 .left), eq-eqb _ _ (c .before .if3 .taken), ← c .fields2 .ensures)
+    simp (is-formed tested, ← c .before .before .before .number-at .ensures, ne-eqb _ _ (c .before .before .if2 .left), eq-eqb _ _ (c .before .if3 .taken), ← c .fields2 .ensures)
 
 returns-4 : tie.Need-returns-4
 unfolding head-of
 returns-4 c =
     let tested = c .before .before .before in
-    simp (is-formed tested, ← c .before .before .number .ensures, ne-eqb _ _ (c .before .if2 .left), ne-eqb _ _ (c .if3 .left))
+    simp (is-formed tested, ← c .before .before .number-at .ensures, ne-eqb _ _ (c .before .if2 .left), ne-eqb _ _ (c .if3 .left))
 
 pub read-header-spec : {M : Type 1} → statement M
-read-header-spec = tie.close (tie.spec formed-requires returns number-requires fields-requires returns-2 fields-requires-2 returns-3 returns-4)
+read-header-spec = tie.close (tie.spec formed-requires returns number-at-requires fields-requires returns-2 fields-requires-2 returns-3 returns-4)

@@ -2,9 +2,10 @@
 use mathlib.Core.Path.{_∙_}
 use Prim.Native.Nat.{_+_, _*_}
 use native.Mathlib.Omega.{arith}
+use borrow.Author.Needs.{needs}
 use Rattle.hex.specs.Hex.{Digits}
 use Rattle.hex.specs.Parts.{part-digits}
-use Rattle.reader.proofs.RowLaws.{row-has}
+use Rattle.reader.proofs.FrameLaws.{frame-has}
 use Rattle.reader.proofs.inner.rows.feature_of.Statement.{statement}
 use Rattle.reader.proofs.inner.rows.feature_of.Tie as tie
 
@@ -12,10 +13,10 @@ use Rattle.reader.proofs.inner.rows.feature_of.Tie as tie
 digits : (c : tie.After-row-at) → Digits (c .before .before .args .s .now) (c .row-at .result + 16 * (1 + c .before .before .args .j)) 16
 digits c =
     let start = c .before .before in
-    rw (c .row-at .ensures) (part-digits _ 16 (row-has (start .args .r) (start .pre .0) (start .pre .1)) (omega arith) (omega arith))
+    rw (c .row-at .ensures) (part-digits _ 16 (frame-has (start .args .r) (start .pre .0) (start .pre .1)) (omega arith) (omega arith))
 
 row-at-requires : tie.Need-row-at-requires
-row-at-requires c κs = omega arith
+row-at-requires c κs = search needs
 
 add-float : tie.Need-add-float
 add-float c = omega arith

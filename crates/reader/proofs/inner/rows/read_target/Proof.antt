@@ -2,11 +2,13 @@
 use mathlib.Core.Path.{_≡_, refl, _∙_}
 use Prim.Native.Nat.{_-_, _≤_}
 use native.Mathlib.Omega.{arith}
+use borrow.Author.Needs.{needs}
 use lib.ListN.{length, length-set}
 use Rattle.steps.specs.Table.{filled, filled-none}
 use Rattle.hex.specs.Parts.{part-digits}
 use Rattle.reader.specs.Rows.{target as target-of}
-use Rattle.reader.proofs.RowLaws.{row-has, fill-more, fill-end}
+use Rattle.reader.proofs.FrameLaws.{frame-has}
+use Rattle.reader.proofs.RowLaws.{fill-more, fill-end}
 use Rattle.reader.proofs.inner.rows.read_target.Statement.{statement}
 use Rattle.reader.proofs.inner.rows.read_target.Tie as tie
 
@@ -20,12 +22,12 @@ loop-holds : tie.Need-loop-holds Inv-loop μ-loop
 loop-holds c = (omega arith, refl, filled-none _ _)
 
 row-at-requires : tie.Need-row-at-requires Inv-loop μ-loop
-row-at-requires c κs = omega arith
+row-at-requires c κs = search needs
 
 float-requires : tie.Need-float-requires Inv-loop μ-loop
 float-requires c κs =
     let start = c .before .before .before .before .before in
-    rw (c .row-at .ensures) (part-digits _ 16 (row-has (c .before .before .loop .r) (start .pre .0) (omega arith)) (omega arith) (omega arith))
+    rw (c .row-at .ensures) (part-digits _ 16 (frame-has (c .before .before .loop .r) (start .pre .0) (omega arith)) (omega arith) (omega arith))
 
 mul-target : tie.Need-mul-target Inv-loop μ-loop
 mul-target c = omega arith

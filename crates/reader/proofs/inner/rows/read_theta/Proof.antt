@@ -61,4 +61,6 @@ unfolding table
 returns c = fill-end _ _ _ _ _ (c .before .loop .inv .3) (omega arith) (omega arith)
 
 pub read-theta-spec : {M : Type 1} → statement M
-read-theta-spec = tie.close (tie.spec Inv-loop μ-loop mul-n loop-holds div-feature-of rem-feature-of feature-of-requires mul-theta slice-write-theta add-k loop-less loop-again same-length returns)
+read-theta-spec =
+    tie.close (tie.spec Inv-loop μ-loop mul-n loop-holds div-feature-of rem-feature-of feature-of-requires mul-theta slice-write-theta add-k loop-less
+    loop-again same-length returns)

@@ -1,4 +1,4 @@
--- `number` takes the digits from the first on. The loop's invariant: w is the number of the i digits so far, and so below 16 ^ i.
+-- `number_at` takes the digits from the first on. The loop's invariant: w is the number of the i digits so far, and so below 16 ^ i.
 use mathlib.Core.Path.{_≡_, sym, ap, _∙_}
 use Prim.Native.Nat.{ℕ, _+_, _*_, _-_, _^_, _≤_, _<_}
 use native.Mathlib.Nat.{pow-le-pow-right, pow-suc, le-of-suc-le-suc}
@@ -6,13 +6,13 @@ use native.Mathlib.Numerals.{add-one}
 use native.Mathlib.Omega.{arith}
 use borrow.Author.Needs.{needs}
 use lib.Dec.{lit<}
-use Rattle.hex.specs.Hex.{value, number}
+use Rattle.hex.specs.Hex.{value, number-at}
 use Rattle.hex.specs.Parts.{number-none, number-more, hex-at}
-use Rattle.hex.proofs.inner.number.Statement.{statement}
-use Rattle.hex.proofs.inner.number.Tie as tie
+use Rattle.hex.proofs.inner.number_at.Statement.{statement}
+use Rattle.hex.proofs.inner.number_at.Tie as tie
 
 abbrev Inv-loop : tie.InvT-loop
-Inv-loop s at n w₀ i₀ w i = (i ≤ n) × (w ≡ number s at i) × (w < 16 ^ i)
+Inv-loop s at n w₀ i₀ w i = (i ≤ n) × (w ≡ number-at s at i) × (w < 16 ^ i)
 
 abbrev μ-loop : tie.MeasureT-loop
 μ-loop s at n w₀ i₀ w i = n - i
@@ -66,7 +66,7 @@ returns : tie.Need-returns Inv-loop μ-loop
 returns c =
     let a = c .before .before .before .args in
     let e : c .before .loop .i ≡ a .n = omega arith in
-    c .before .loop .inv .1 ∙ ap (number (a .s .now) (a .at)) e
+    c .before .loop .inv .1 ∙ ap (number-at (a .s .now) (a .at)) e
 
-pub number-spec : {M : Type 1} → statement M
-number-spec = tie.close (tie.spec Inv-loop μ-loop loop-holds mul-w add-value shared-slice-read-value value-requires add-w add-i loop-less loop-again returns)
+pub number-at-spec : {M : Type 1} → statement M
+number-at-spec = tie.close (tie.spec Inv-loop μ-loop loop-holds mul-w add-value shared-slice-read-value value-requires add-w add-i loop-less loop-again returns)
