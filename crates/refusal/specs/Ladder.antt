@@ -1,12 +1,14 @@
--- A ladder of refusals that is passed. Assumes nothing.
+-- A ladder of refusals that is passed, and the end of a solve as an answer. Assumes nothing.
 use mathlib.Core.Path.{_≡_, refl}
 use mathlib.Core.Bool.{Bool, true, false}
 use Prim.Native.Nat.{ℕ}
 use native.Mathlib.Omega.{arith}
-use Rattle.refusal.specs.Answers.{refuse-if, and-then}
+use Rattle.refusal.specs.Answers.{refuse-if, and-then, told, ended, answer-of}
 use Rattle.refusal.specs.declared.Answer.{Answer}
 use Rattle.refusal.specs.declared.Answer.the-variants.{Done, Refused}
 use Rattle.refusal.specs.declared.Refusal.{Refusal}
+use Rattle.refusal.specs.declared.Solved.{Solved}
+use Rattle.refusal.specs.declared.Solved.the-variants as S
 
 -- where nothing is refused, the first test does not hold, and the rest refuses nothing
 pub passed : (t : Bool) (w : Refusal) (next : Answer) → refuse-if t w next ≡ Done → (t ≡ false) × (next ≡ Done)
@@ -17,3 +19,8 @@ passed false w next e = (refl, e)
 pub both-passed : (a next : Answer) → and-then a next ≡ Done → (a ≡ Done) × (next ≡ Done)
 both-passed Done next e = (refl, e)
 both-passed (Refused w) next e = let z : _≡_ {A = ℕ} 0 1 = cc in absurd (omega arith)
+
+-- what a solve told ends as its answer does, whatever it leaves
+pub ended-told : {A : Type 0} (w : Refusal) (s : Solved) (x : A) → ended w (told s x) ≡ answer-of w s
+ended-told w S.Done x = refl
+ended-told w (S.Refused c) x = refl
