@@ -1,16 +1,13 @@
--- A ladder of refusals that is passed, and the end of a solve as an answer. Assumes nothing.
+-- A ladder of refusals, and what is known once it is passed. Assumes nothing.
 use mathlib.Core.Path.{_≡_, refl}
 use mathlib.Core.Bool.{Bool, true, false}
 use Prim.Native.Nat.{ℕ}
 use native.Mathlib.Omega.{arith}
 use borrow.Author.Tests.{lt-ltb, le-ltb, eq-eqb, ne-eqb}
-use Rattle.steps.specs.Loops.{left}
-use Rattle.refusal.specs.Answers.{refuse-if, and-then, told, ended, answer-of}
+use Rattle.refusal.specs.Answers.{refuse-if, and-then}
 use Rattle.refusal.specs.declared.Answer.{Answer}
 use Rattle.refusal.specs.declared.Answer.the-variants.{Done, Refused}
 use Rattle.refusal.specs.declared.Refusal.{Refusal}
-use Rattle.refusal.specs.declared.Solved.{Solved}
-use Rattle.refusal.specs.declared.Solved.the-variants as S
 
 -- how far a ladder goes, by what its tests found: `search ladder`, with the ladder unfolded, answers each return of a function of tests
 pub ruleset ladder = (lt-ltb, le-ltb, eq-eqb, ne-eqb)
@@ -24,12 +21,3 @@ passed false w next e = (refl, e)
 pub both-passed : (a next : Answer) → and-then a next ≡ Done → (a ≡ Done) × (next ≡ Done)
 both-passed Done next e = (refl, e)
 both-passed (Refused w) next e = let z : _≡_ {A = ℕ} 0 1 = cc in absurd (omega arith)
-
--- what a solve told ends as its answer does, and leaves what it left
-pub ended-told : {A : Type 0} (w : Refusal) (s : Solved) (x : A) → ended w (told s x) ≡ answer-of w s
-ended-told w S.Done x = refl
-ended-told w (S.Refused c) x = refl
-
-pub left-told : {A : Type 0} (s : Solved) (x : A) → left (told s x) ≡ x
-left-told S.Done x = refl
-left-told (S.Refused c) x = refl

@@ -7,8 +7,8 @@ use lib.ListN.{length, take, length-take}
 use lib.Ieee.{Float}
 use Rattle.steps.specs.Loops.{Way}
 use Rattle.steps.specs.Space.{withPart, cleared, cleared-with}
-use Rattle.refusal.specs.Answers.{told, answer-of, Solution}
-use Rattle.refusal.specs.Ladder.{ended-told, left-told}
+use Rattle.refusal.specs.Answers.{told, answered, Solution}
+use Rattle.refusal.specs.Told.{ended-told, left-told}
 use Rattle.refusal.specs.declared.Answer.{Answer}
 use Rattle.refusal.specs.declared.Answer.the-variants.{Done, Refused}
 use Rattle.refusal.specs.declared.Refusal.{Refusal}
@@ -23,7 +23,7 @@ module _ {why : Refusal} {solve : Way (List Float × List Float)} {a b : List Fl
   pub square-refused : {w : Refusal} → sizes ≡ Refused w → SquareCall why solve a b n a b sizes
   square-refused e = record { sizes = sizes; judged = judged; answer = rw e; matrix = rw e; right = rw e }
 
-  pub square-solved : (s : Solved) {a' b' : List Float} {r : Answer} → sizes ≡ Done → told s (a', b') ≡ solve → r ≡ answer-of why s → SquareCall why solve a b n a' b' r
+  pub square-solved : (s : Solved) {a' b' : List Float} {r : Answer} → sizes ≡ Done → told s (a', b') ≡ solve → r ≡ answered why s → SquareCall why solve a b n a' b' r
   square-solved s {a'} {b'} e t q =
       let both = left-told {A = List Float × List Float} s (a', b') in
       record {
@@ -38,7 +38,7 @@ module _ {a b : List Float} {n : ℕ} {w : List Float} {sizes : Answer} (judged 
   pub normal-refused : {x : Refusal} → sizes ≡ Refused x → NormalCall a b n b w w sizes
   normal-refused e = record { sizes = sizes; judged = judged; answer = rw e; right = rw e; space = rw e }
 
-  pub normal-solved : (s : Solved) {b' w' : List Float} {r : Answer} → sizes ≡ Done → told s b' ≡ normal n a b → w' ≡ cleared (n * n) w → r ≡ answer-of SmallPivot s → NormalCall a b n b' w w' r
+  pub normal-solved : (s : Solved) {b' w' : List Float} {r : Answer} → sizes ≡ Done → told s b' ≡ normal n a b → w' ≡ cleared (n * n) w → r ≡ answered SmallPivot s → NormalCall a b n b' w w' r
   normal-solved s {b'} e t k q =
       record {
         sizes = sizes;

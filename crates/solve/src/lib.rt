@@ -17,7 +17,7 @@ use normal::inner::normal_equations;
 use refusal::Answer;
 use refusal::Refusal;
 use refusal::Solved;
-use refusal::inner::answer_of;
+use refusal::inner::answered;
 use slices::inner::clear;
 use slices::inner::copy;
 
@@ -29,7 +29,7 @@ pub fn solve_spd_cholesky(a: &mut [f64], b: &mut [f64], n: usize) -> Answer
     let Answer::Done = sizes else {
         return sizes;
     };
-    answer_of(cholesky(a, b, n), Refusal::NotSpd)
+    answered(cholesky(a, b, n), Refusal::NotSpd)
 }
 
 // Solves by LU: a becomes the factors, b the solution.
@@ -40,7 +40,7 @@ pub fn solve_lu(a: &mut [f64], b: &mut [f64], n: usize) -> Answer
     let Answer::Done = sizes else {
         return sizes;
     };
-    answer_of(lu(a, b, n), Refusal::SmallPivot)
+    answered(lu(a, b, n), Refusal::SmallPivot)
 }
 
 // The normal equations of sizes that nothing refuses: in n * n numbers of the workspace, which are cleared.
@@ -62,7 +62,7 @@ pub fn solve_normal_equations(a: &[f64], b: &mut [f64], n: usize, workspace: &mu
     let Answer::Done = sizes else {
         return sizes;
     };
-    answer_of(normal_ready(a, b, n, workspace), Refusal::SmallPivot)
+    answered(normal_ready(a, b, n, workspace), Refusal::SmallPivot)
 }
 
 // The least squares solution of a and b into `out`, worked out in ws, of m * n + m numbers.
