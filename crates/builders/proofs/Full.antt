@@ -1,5 +1,5 @@
--- The columns of a matrix as the full support's columns, and what a refused call answers and leaves. Assumes nothing.
-use mathlib.Core.Path.{_≡_, refl, ap, _∙_}
+-- The columns of a matrix as the full support's columns. Assumes nothing.
+use mathlib.Core.Path.{_≡_, ap, _∙_}
 use mathlib.Core.List.{List}
 use Prim.Native.Nat.{ℕ, _*_, _≤_}
 use native.Mathlib.Omega.{arith}
@@ -12,13 +12,10 @@ use Rattle.steps.specs.Table.{tab-cong, table-cong}
 use Rattle.support.specs.Word.{full}
 use Rattle.support.specs.SupportLaws.{full-is}
 use Rattle.support.specs.CountLaws.{ones-full}
-use Rattle.refusal.specs.declared.Refusal.{Refusal}
-use Rattle.refusal.specs.declared.Answer.the-variants.{Refused}
 use Rattle.places.specs.Columns.{Within, columns}
 use Rattle.places.specs.ColumnLaws.{columns-full}
 use Rattle.sums.specs.Products.{gram, moment, damped, jtj-matrix, jtr-column}
 use Rattle.sums.specs.ProductLaws.{gram-cong, moment-cong}
-use Rattle.builders.specs.Calls.{jtj-sizes, jtr-sizes, JtjCall, JtrCall}
 
 module _ (n w : ℕ) (few : n ≤ 64) (all : w ≡ full n) where
   pub within-full : (jac : List Float) (rows : ℕ) → rows ≤ 4096 → length jac ≡ rows * n → Within jac rows n w
@@ -37,10 +34,3 @@ module _ (n w : ℕ) (few : n ≤ 64) (all : w ≡ full n) where
   unfolding jtr-column
   jtr-full e t rows =
       rw (count-all, all) (tab-cong n _ _ (λ p hp. moment-cong (columns n (full n) e) e t rows p (λ i h. columns-full n e i p few hp)))
-
--- a refused call leaves the output as it was
-pub jtj-refused : (jac : List Float) (rows n : ℕ) (lambda : Float) (out : List Float) (w : Refusal) → Refused w ≡ jtj-sizes rows n (length jac) (length out) → JtjCall jac rows n lambda out out (Refused w)
-jtj-refused jac rows n lambda out w e = record { answer = e; matrix = refl }
-
-pub jtr-refused : (jac t : List Float) (rows n : ℕ) (out : List Float) (w : Refusal) → Refused w ≡ jtr-sizes rows n (length jac) (length t) (length out) → JtrCall jac t rows n out out (Refused w)
-jtr-refused jac t rows n out w e = record { answer = e; column = refl }

@@ -7,28 +7,30 @@ use lib.Dec.{ltb, eqb}
 use lib.ListN.{length}
 use lib.Ieee.{Float}
 use Rattle.steps.specs.Num.{at, cell}
-use Rattle.refusal.specs.Answers.{refuse-if, if-done}
+use Rattle.refusal.specs.Answers.{refuse-if, if-done, and-then}
 use Rattle.refusal.specs.declared.Answer.{Answer}
 use Rattle.refusal.specs.declared.Answer.the-variants.{Done}
 use Rattle.refusal.specs.declared.Refusal.the-variants.{ManyColumns, ManyRows, MatrixLength, TargetLength, OutputLength}
-use Rattle.sums.specs.Products.{gram, moment, ridge, jtj-matrix, jtr-column}
+pub use Rattle.sums.specs.Products.{ridge}
+use Rattle.sums.specs.Products.{gram, moment, jtj-matrix, jtr-column}
 
--- the first refusal that applies to a matrix of this length, before the next ones
-unfoldable pub matrix-sizes : ℕ → ℕ → ℕ → Answer → Answer
-matrix-sizes rows n matrix next =
-    refuse-if (ltb 64 n) ManyColumns (refuse-if (ltb 4096 rows) ManyRows (refuse-if (not (eqb matrix (rows * n))) MatrixLength next))
+-- the first refusal that applies to a matrix of this length
+unfoldable pub matrix-sizes : ℕ → ℕ → ℕ → Answer
+matrix-sizes rows n matrix =
+    refuse-if (ltb 64 n) ManyColumns (refuse-if (ltb 4096 rows) ManyRows (refuse-if (not (eqb matrix (rows * n))) MatrixLength Done))
 
+-- then to the other lengths
 unfoldable pub jtj-sizes : ℕ → ℕ → ℕ → ℕ → Answer
-jtj-sizes rows n matrix out = matrix-sizes rows n matrix (refuse-if (not (eqb out (n * n))) OutputLength Done)
+jtj-sizes rows n matrix out = and-then (matrix-sizes rows n matrix) (refuse-if (not (eqb out (n * n))) OutputLength Done)
 
 unfoldable pub jtr-sizes : ℕ → ℕ → ℕ → ℕ → ℕ → Answer
 jtr-sizes rows n matrix target out =
-    matrix-sizes rows n matrix (refuse-if (not (eqb target rows)) TargetLength (refuse-if (not (eqb out n)) OutputLength Done))
+    and-then (matrix-sizes rows n matrix) (refuse-if (not (eqb target rows)) TargetLength (refuse-if (not (eqb out n)) OutputLength Done))
 
--- `jtj`: the damped pair sums of the columns
-pub record JtjCall (jac : List Float) (rows n : ℕ) (lambda : Float) (out out' : List Float) (r : Answer) : Type 0 where
+-- `jtj`: the pair sums of the columns, damped
+pub record JtjCall (damp : Float → Float) (jac : List Float) (rows n : ℕ) (out out' : List Float) (r : Answer) : Type 0 where
   pub answer : r ≡ jtj-sizes rows n (length jac) (length out)
-  pub matrix : out' ≡ if-done r (jtj-matrix (ridge lambda) n (gram (cell n jac) rows)) out
+  pub matrix : out' ≡ if-done r (jtj-matrix damp n (gram (cell n jac) rows)) out
 
 -- `jtr`: the products of the columns and the target
 pub record JtrCall (jac t : List Float) (rows n : ℕ) (out out' : List Float) (r : Answer) : Type 0 where

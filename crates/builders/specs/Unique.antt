@@ -6,8 +6,8 @@ use lib.Ieee.{Float}
 use Rattle.refusal.specs.declared.Answer.{Answer}
 use Rattle.builders.specs.Calls.{JtjCall, JtrCall}
 
-pub jtj-unique : (jac : List Float) (rows n : ℕ) (lambda : Float) (out out' out'' : List Float) (r s : Answer) → JtjCall jac rows n lambda out out' r → JtjCall jac rows n lambda out out'' s → (r ≡ s) × (out' ≡ out'')
-jtj-unique jac rows n lambda out out' out'' r s p q = (cc, cc)
+pub jtj-unique : (damp : Float → Float) (jac : List Float) (rows n : ℕ) (out out' out'' : List Float) (r s : Answer) → JtjCall damp jac rows n out out' r → JtjCall damp jac rows n out out'' s → (r ≡ s) × (out' ≡ out'')
+jtj-unique damp jac rows n out out' out'' r s p q = (cc, cc)
 
 pub jtr-unique : (jac t : List Float) (rows n : ℕ) (out out' out'' : List Float) (r s : Answer) → JtrCall jac t rows n out out' r → JtrCall jac t rows n out out'' s → (r ≡ s) × (out' ≡ out'')
 jtr-unique jac t rows n out out' out'' r s p q = (cc, cc)

@@ -33,9 +33,9 @@ numbered : {A : Type 0} {number-of : A → ℕ} {C D : A → Type 0} {r s : ℕ}
 numbered p q same = cc
 
 module _ (jac : List Float) (rows n : ℕ) (out out' out'' : List Float) (r s : ℕ) where
-  pub export-jtj-unique : (lambda : Float) → Numbered answer-number (JtjCall jac rows n lambda out out') r → Numbered answer-number (JtjCall jac rows n lambda out out'') s → (r ≡ s) × (out' ≡ out'')
-  export-jtj-unique lambda p q =
-      let same = jtj-unique jac rows n lambda out out' out'' _ _ (p .call) (q .call) in
+  pub export-jtj-unique : (damp : Float → Float) → Numbered answer-number (JtjCall damp jac rows n out out') r → Numbered answer-number (JtjCall damp jac rows n out out'') s → (r ≡ s) × (out' ≡ out'')
+  export-jtj-unique damp p q =
+      let same = jtj-unique damp jac rows n out out' out'' _ _ (p .call) (q .call) in
       (numbered p q (same .0), same .1)
 
   pub export-jtr-unique : (t : List Float) → Numbered answer-number (JtrCall jac t rows n out out') r → Numbered answer-number (JtrCall jac t rows n out out'') s → (r ≡ s) × (out' ≡ out'')

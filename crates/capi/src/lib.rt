@@ -3,7 +3,7 @@ mod fits;
 mod solvers;
 
 ghost use mathlib.Core.Path.{_≡_};
-ghost use Rattle.builders.specs.Calls.{JtjCall, JtrCall};
+ghost use Rattle.builders.specs.Calls.{JtjCall, JtrCall, ridge};
 ghost use Rattle.capi.specs.Numbered.{Numbered};
 ghost use Rattle.float64.specs.Root.{absOf};
 ghost use Rattle.float64.specs.Rule.{SqrtCall};
@@ -36,7 +36,7 @@ pub extern "C" fn dapmotar_jtj(
     lambda: f64,
     out: &mut [f64],
 ) -> u64
-    ensures { λ r. ⌜ Numbered answer-number (JtjCall (now (jac .entry)) «n_rows» «n_params» lambda (now (out .entry)) (now (out .exit))) r ⌝ }
+    ensures { λ r. ⌜ Numbered answer-number (JtjCall (ridge lambda) (now (jac .entry)) «n_rows» «n_params» (now (out .entry)) (now (out .exit))) r ⌝ }
 {
     answer_number(builders::jtj(jac, n_rows, n_params, lambda, out))
 }

@@ -5,7 +5,7 @@ ghost use lib.ListN.{length};
 ghost use Rattle.steps.specs.Num.{times, at, cell};
 ghost use Rattle.steps.specs.Sums.{less-sum};
 ghost use Rattle.refusal.specs.Answers.{told};
-ghost use Rattle.cholesky.specs.Cholesky.{scale, reduced, chol-below, chol-factor, chol-forward, chol-back, cholesky};
+ghost use Rattle.cholesky.specs.Cholesky.{scale, reduced, chol-below, chol-column, chol-factor, chol-forward, chol-back, cholesky};
 use float64::abs;
 use float64::greater;
 use float64::sqrt;
@@ -49,6 +49,21 @@ fn chol_below(a: &mut [f64], n: usize, j: usize, d: f64)
     }
 }
 
+// Column j of the factor, refused where its diagonal is at most the bound.
+fn chol_column(a: &mut [f64], n: usize, bound: f64, j: usize) -> Solved
+    requires { ⌜ (length (now a) ≡ n * n) × (j < n) ⌝ }
+    ensures { λ r. ⌜ told r (now (a .exit)) ≡ chol-column n bound j (now (a .entry)) ⌝ }
+{
+    let s = row_less(a, n, j, j);
+    if s <= bound {
+        return Solved::Refused(j);
+    }
+    let d = sqrt(s);
+    put(a, n, j, j, d);
+    chol_below(a, n, j, d);
+    Solved::Done
+}
+
 // The factor, on and below the diagonal.
 fn cholesky_factor(a: &mut [f64], n: usize) -> Solved
     requires { ⌜ length (now a) ≡ n * n ⌝ }
@@ -56,13 +71,10 @@ fn cholesky_factor(a: &mut [f64], n: usize) -> Solved
 {
     let bound = 1e-14 * chol_scale(a, n);
     for j in 0..n {
-        let s = row_less(a, n, j, j);
-        if s <= bound {
-            return Solved::Refused(j);
-        }
-        let d = sqrt(s);
-        put(a, n, j, j, d);
-        chol_below(a, n, j, d);
+        let column = chol_column(a, n, bound, j);
+        let Solved::Done = column else {
+            return column;
+        };
     }
     Solved::Done
 }

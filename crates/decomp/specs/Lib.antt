@@ -1,3 +1,4 @@
 -- What `qr` promises. Assumes nothing.
 pub mod Calls
+pub mod Sizes
 pub mod Unique

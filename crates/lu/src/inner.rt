@@ -3,7 +3,7 @@ ghost use mathlib.Core.Path.{_≡_};
 ghost use Prim.Native.Nat.{_*_, _<_};
 ghost use lib.ListN.{length};
 ghost use Rattle.refusal.specs.Answers.{told};
-ghost use Rattle.lu.specs.Lu.{Pivots, swap-rows, lu-swap, less-row, eliminated, lu-factor, lu-forward, lu-back, lu};
+ghost use Rattle.lu.specs.Lu.{Pivots, swap-rows, lu-swap, less-row, eliminated, lu-column, lu-factor, lu-forward, lu-back, lu};
 use float64::abs;
 use refusal::Solved;
 use slices::inner::cell;
@@ -80,19 +80,31 @@ fn eliminate(a: &mut [f64], n: usize, k: usize)
     }
 }
 
+// Column k: its pivot's row is brought up, then the rows below are eliminated; refused where the pivot is small.
+fn lu_column(a: &mut [f64], b: &mut [f64], n: usize, k: usize) -> Solved
+    requires { ⌜ (length (now a) ≡ n * n) × (length (now b) ≡ n) × (k < n) ⌝ }
+    ensures { λ r. ⌜ told r (now (a .exit), now (b .exit)) ≡ lu-column n k (now (a .entry), now (b .entry)) ⌝ }
+{
+    let p = find_pivot(a, n, k);
+    let row = p.row;
+    if p.size < 1e-15 {
+        return Solved::Refused(k);
+    }
+    swap_both(a, b, n, k, row);
+    eliminate(a, n, k);
+    Solved::Done
+}
+
 // The factors; b's entries move with the rows.
 fn lu_factor(a: &mut [f64], b: &mut [f64], n: usize) -> Solved
     requires { ⌜ (length (now a) ≡ n * n) × (length (now b) ≡ n) ⌝ }
     ensures { λ r. ⌜ told r (now (a .exit), now (b .exit)) ≡ lu-factor n (now (a .entry)) (now (b .entry)) ⌝ }
 {
     for k in 0..n {
-        let p = find_pivot(a, n, k);
-        let row = p.row;
-        if p.size < 1e-15 {
-            return Solved::Refused(k);
-        }
-        swap_both(a, b, n, k, row);
-        eliminate(a, n, k);
+        let column = lu_column(a, b, n, k);
+        let Solved::Done = column else {
+            return column;
+        };
     }
     Solved::Done
 }

@@ -54,6 +54,11 @@ abbrev pub ended : {S : Type 0} → Refusal → Way S → Answer
 ended w (going s) = Done
 ended w (stopped c s) = Refused w
 
+-- what a solver answers inside, as the answer of a public call
+abbrev pub answered : Refusal → Solved → Answer
+answered w S.Done = Done
+answered w (S.Refused c) = Refused w
+
 -- what a solve gives: the values of its columns, or the column at which it refused (no report tells it yet: a later order does)
 pub data Solution : Type 0 where
   solved : List Float → Solution

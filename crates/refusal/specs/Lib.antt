@@ -1,4 +1,5 @@
 -- What the calls answer. Assumes nothing.
 pub mod Answers
 pub mod Ladder
+pub mod Told
 pub mod Unique

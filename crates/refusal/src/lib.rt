@@ -1,4 +1,6 @@
 // The refusals of document 01, and the answers that are made of them.
+pub mod inner;
+
 ghost use mathlib.Core.Path.{_≡_};
 ghost use Rattle.refusal.specs.Answers.{answer-number, number};
 

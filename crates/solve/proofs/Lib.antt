@@ -1,4 +1,2 @@
 -- What the solvers' proofs share, over plain values. Assumes nothing.
-pub mod Sizes
-mod LeastSpace
-mod LeastEnds
+pub mod Ends

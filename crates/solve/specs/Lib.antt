@@ -1,3 +1,4 @@
 -- The solvers. Assumes nothing.
 pub mod Calls
+pub mod Sizes
 pub mod Unique

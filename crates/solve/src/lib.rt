@@ -1,5 +1,15 @@
 // The solvers: the public calls.
-ghost use Rattle.solve.specs.Calls.{CholeskyCall, LeastCall, LuCall, NormalCall};
+mod sizes;
+
+ghost use mathlib.Core.Path.{_≡_};
+ghost use Prim.Native.Nat.{_+_, _*_, _≤_};
+ghost use lib.ListN.{length};
+ghost use Rattle.steps.specs.Space.{cleared};
+ghost use Rattle.refusal.specs.Answers.{told};
+ghost use Rattle.normal.specs.Normal.{normal};
+ghost use Rattle.least.specs.Least.{least};
+ghost use Rattle.solve.specs.Calls.{CholeskyCall, LeastCall, LuCall, NormalCall, Solves, least-need};
+ghost use Rattle.solve.specs.Sizes.{Square, Tall};
 use cholesky::inner::cholesky;
 use least::inner::least_of;
 use lu::inner::lu;
@@ -7,6 +17,7 @@ use normal::inner::normal_equations;
 use refusal::Answer;
 use refusal::Refusal;
 use refusal::Solved;
+use refusal::inner::answered;
 use slices::inner::clear;
 use slices::inner::copy;
 
@@ -14,63 +25,76 @@ use slices::inner::copy;
 pub fn solve_spd_cholesky(a: &mut [f64], b: &mut [f64], n: usize) -> Answer
     ensures { λ r. ⌜ CholeskyCall (now (a .entry)) (now (b .entry)) n (now (a .exit)) (now (b .exit)) r ⌝ }
 {
-    if n > 64 {
-        return Answer::Refused(Refusal::ManyColumns);
-    }
-    if a.len() != n * n {
-        return Answer::Refused(Refusal::MatrixLength);
-    }
-    if b.len() != n {
-        return Answer::Refused(Refusal::TargetLength);
-    }
-    let Solved::Done = cholesky(a, b, n) else {
-        return Answer::Refused(Refusal::NotSpd);
+    let sizes = sizes::square_sizes(n, a.len(), b.len());
+    let Answer::Done = sizes else {
+        return sizes;
     };
-    Answer::Done
+    answered(cholesky(a, b, n), Refusal::NotSpd)
 }
 
 // Solves by LU: a becomes the factors, b the solution.
 pub fn solve_lu(a: &mut [f64], b: &mut [f64], n: usize) -> Answer
     ensures { λ r. ⌜ LuCall (now (a .entry)) (now (b .entry)) n (now (a .exit)) (now (b .exit)) r ⌝ }
 {
-    if n > 64 {
-        return Answer::Refused(Refusal::ManyColumns);
-    }
-    if a.len() != n * n {
-        return Answer::Refused(Refusal::MatrixLength);
-    }
-    if b.len() != n {
-        return Answer::Refused(Refusal::TargetLength);
-    }
-    let Solved::Done = lu(a, b, n) else {
-        return Answer::Refused(Refusal::SmallPivot);
+    let sizes = sizes::square_sizes(n, a.len(), b.len());
+    let Answer::Done = sizes else {
+        return sizes;
     };
-    Answer::Done
+    answered(lu(a, b, n), Refusal::SmallPivot)
+}
+
+// The normal equations of sizes that nothing refuses: in n * n numbers of the workspace, which are cleared.
+fn normal_ready(a: &[f64], b: &mut [f64], n: usize, workspace: &mut [f64]) -> Solved
+    requires { ⌜ (Square n (length (now a)) (length (now b))) × (n * n ≤ length (now workspace)) ⌝ }
+    ensures { λ r. ⌜ (told r (now (b .exit)) ≡ normal n (now (a .entry)) (now (b .entry))) × (now (workspace .exit) ≡ cleared (n * n) (now (workspace .entry))) ⌝ }
+{
+    let cells = a.len();
+    let solved = normal_equations(a, b, n, &mut workspace[0..cells]);
+    clear(workspace, cells);
+    solved
 }
 
 // Solves by Cholesky, or by LU where that refuses: b becomes the solution, a stays, and the workspace is cleared.
 pub fn solve_normal_equations(a: &[f64], b: &mut [f64], n: usize, workspace: &mut [f64]) -> Answer
     ensures { λ r. ⌜ NormalCall (now (a .entry)) (now (b .entry)) n (now (b .exit)) (now (workspace .entry)) (now (workspace .exit)) r ⌝ }
 {
-    if n > 64 {
-        return Answer::Refused(Refusal::ManyColumns);
-    }
-    let cells = n * n;
-    if a.len() != cells {
-        return Answer::Refused(Refusal::MatrixLength);
-    }
-    if b.len() != n {
-        return Answer::Refused(Refusal::TargetLength);
-    }
-    if workspace.len() < cells {
-        return Answer::Refused(Refusal::WorkspaceShort);
-    }
-    let solved = normal_equations(a, b, n, &mut workspace[0..cells]);
-    clear(workspace, cells);
-    let Solved::Done = solved else {
+    let sizes = sizes::normal_sizes(n, a.len(), b.len(), workspace.len());
+    let Answer::Done = sizes else {
+        return sizes;
+    };
+    answered(normal_ready(a, b, n, workspace), Refusal::SmallPivot)
+}
+
+// The least squares solution of a and b into `out`, worked out in ws, of m * n + m numbers.
+fn least_into(a: &[f64], b: &[f64], m: usize, n: usize, out: &mut [f64], ws: &mut [f64]) -> Answer
+    requires { ⌜ (Tall m n (length (now a)) (length (now b)) (length (now out))) × (length (now ws) ≡ m * n + m) ⌝ }
+    ensures { λ r. ⌜ Solves (least m n (now (a .entry)) (now (b .entry))) (now (out .entry)) (now (out .exit)) r ⌝ }
+{
+    let mn = a.len();
+    let Solved::Done = least_of(a, b, ws, m, n) else {
         return Answer::Refused(Refusal::SmallPivot);
     };
+    let last = mn + n;
+    copy(&ws[mn..last], out);
     Answer::Done
+}
+
+// Least squares of sizes that nothing refuses: in as much of the workspace as it needs, which is cleared.
+fn least_ready(
+    a: &[f64],
+    b: &[f64],
+    m: usize,
+    n: usize,
+    out: &mut [f64],
+    workspace: &mut [f64],
+) -> Answer
+    requires { ⌜ (Tall m n (length (now a)) (length (now b)) (length (now out))) × (least-need m n ≤ length (now workspace)) ⌝ }
+    ensures { λ r. ⌜ (Solves (least m n (now (a .entry)) (now (b .entry))) (now (out .entry)) (now (out .exit)) r) × (now (workspace .exit) ≡ cleared (least-need m n) (now (workspace .entry))) ⌝ }
+{
+    let end = a.len() + m;
+    let answer = least_into(a, b, m, n, out, &mut workspace[0..end]);
+    clear(workspace, sizes::least_need(m, n));
+    answer
 }
 
 // The least squares solution of the m by n matrix `a` and the right-hand side `b`, into `out`.
@@ -84,36 +108,9 @@ pub fn solve_least_squares(
 ) -> Answer
     ensures { λ r. ⌜ LeastCall (now (a .entry)) (now (b .entry)) m n (now (out .entry)) (now (out .exit)) (now (workspace .entry)) (now (workspace .exit)) r ⌝ }
 {
-    if n > 64 {
-        return Answer::Refused(Refusal::ManyColumns);
-    }
-    if m > 4160 {
-        return Answer::Refused(Refusal::ManyRows);
-    }
-    if a.len() != m * n {
-        return Answer::Refused(Refusal::MatrixLength);
-    }
-    if b.len() != m {
-        return Answer::Refused(Refusal::TargetLength);
-    }
-    if out.len() != n {
-        return Answer::Refused(Refusal::OutputLength);
-    }
-    if m < n {
-        return Answer::Refused(Refusal::FewRows);
-    }
-    let mn = m * n;
-    let need = mn + 2 * m + 2 * n;
-    if workspace.len() < need {
-        return Answer::Refused(Refusal::WorkspaceShort);
-    }
-    let end = mn + m;
-    let Solved::Done = least_of(a, b, &mut workspace[0..end], m, n) else {
-        clear(workspace, need);
-        return Answer::Refused(Refusal::SmallPivot);
+    let sizes = sizes::least_sizes(m, n, a.len(), b.len(), out.len(), workspace.len());
+    let Answer::Done = sizes else {
+        return sizes;
     };
-    let last = mn + n;
-    copy(&workspace[mn..last], out);
-    clear(workspace, need);
-    Answer::Done
+    least_ready(a, b, m, n, out, workspace)
 }

@@ -36,7 +36,9 @@ chol-back-requires c κs =
     (factor .cholesky-factor .kept .0 ∙ start .pre .0, forward .chol-forward .kept .1 .0 ∙ start .pre .1)
 
 same-length-2 : tie.Need-same-length-2
-same-length-2 c = c .before .before .before .before .before .before .before .before .before .before .before .before .before .before .cholesky-factor .kept .0
+same-length-2 c =
+    let forward = c .before .before .before .before .before .before .before in
+    forward .before .before .before .before .before .before .before .cholesky-factor .kept .0
 
 same-length-3 : tie.Need-same-length-3
 same-length-3 c =

@@ -39,7 +39,9 @@ lu-back-requires c κs =
     (factor .lu-factor .kept .0 ∙ start .pre .0, forward .lu-forward .kept .1 .0 ∙ factor .lu-factor .kept .1 .0 ∙ start .pre .1)
 
 same-length-3 : tie.Need-same-length-3
-same-length-3 c = c .before .before .before .before .before .before .before .before .before .before .before .before .before .before .before .before .lu-factor .kept .0
+same-length-3 c =
+    let forward = c .before .before .before .before .before .before .before in
+    forward .before .before .before .before .before .before .before .before .before .lu-factor .kept .0
 
 same-length-4 : tie.Need-same-length-4
 same-length-4 c =
