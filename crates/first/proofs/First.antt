@@ -21,7 +21,7 @@ use Rattle.rule.specs.Fits.{problem, matrix-of, problem-of}
 use Rattle.rule.specs.Stable.{stays}
 use Rattle.rule.specs.Values.{one-a-column, solves-full, scatter-full}
 use Rattle.refit.specs.Parts.{OverSupport}
-use Rattle.refit.specs.Placed.{gave-done, gave-refused, placed-solved, placed-refused}
+use Rattle.refit.specs.Placed.{done-placed, refused-placed}
 use Rattle.rounds.specs.Ran.{CameTo}
 use Rattle.rounds.specs.Ended.{zeroed, came-to}
 
@@ -64,13 +64,13 @@ module _ (task : Task) (theta target : List Float) where
     pub first-refused : (c : ℕ) (x : List Float) → a ≡ Refused c → length y ≡ task .cols → x ≡ cleared (task .cols) y → CameTo P limit FirstRefused 0 x
     unfolding first problem
     first-refused c x t h i =
-        let no : P .whole ≡ refused c = sym whole ∙ placed-refused (task .cols) w c _ (gave-refused a c y _ t solve) in
+        let no : P .whole ≡ refused c = sym whole ∙ refused-placed a (task .cols) w c _ y t solve in
         at-once (begun ∙ ap (first P) no) (zeroed (task .cols) y h i)
 
     pub first-goes : a ≡ Done → start P ≡ going y []
     unfolding first problem
     first-goes t =
-        let p = placed-solved (task .cols) w _ y (gave-done a y _ t solve) in
+        let p = done-placed a (task .cols) w (P .solve w) y t solve in
         let yes : P .whole ≡ solved (p .values) = sym whole ∙ p .solves in
         let long = one-a-column (task .solver) (task .setup .lambda) (at target) (task .rows) (task .cols) (matrix-of task theta) (p .values) yes in
         let same : y ≡ p .values = p .puts ∙ ap (λ (v : ℕ). scatter (task .cols) v (p .values)) all ∙ scatter-full (task .cols) (p .values) small long in

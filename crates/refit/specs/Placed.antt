@@ -10,23 +10,23 @@ use Rattle.refusal.specs.declared.Solved.the-variants.{Done, Refused}
 use Rattle.rule.specs.Rule.{scatter}
 use Rattle.refit.specs.Parts.{placed, gave}
 
--- what a solve gave, once its answer is known
-pub gave-done : (r : Solved) (x : List Float) (s : Solution) → r ≡ Done → gave r x ≡ s → solved x ≡ s
-gave-done r x s e q = subst (λ (z : Solved). gave z x ≡ s) e q
-
-pub gave-refused : (r : Solved) (c : ℕ) (x : List Float) (s : Solution) → r ≡ Refused c → gave r x ≡ s → refused c ≡ s
-gave-refused r c x s e q = subst (λ (z : Solved). gave z x ≡ s) e q
-
--- a solve that gave coefficients gave values, each put at its term
+-- a solve that is done gave values, each put at its term
 pub record Placed (n w : ℕ) (s : Solution) (cs : List Float) : Type 0 where
   pub values : List Float
   pub solves : s ≡ solved values
   pub puts : cs ≡ scatter n w values
 
-pub placed-solved : (n w : ℕ) (s : Solution) (cs : List Float) → solved cs ≡ placed n w s → Placed n w s cs
-placed-solved n w (solved vs) cs e = record { values = vs; solves = refl; puts = cc }
-placed-solved n w (refused c) cs e = let z : _≡_ {A = ℕ} 0 1 = cc in absurd (omega arith)
+pub done-placed : (r : Solved) (n w : ℕ) (s : Solution) (cs : List Float) → r ≡ Done → gave r cs ≡ placed n w s → Placed n w s cs
+done-placed r n w s cs t q = go s (subst (λ (z : Solved). gave z cs ≡ placed n w s) t q)
+  where
+    go : (s : Solution) → solved cs ≡ placed n w s → Placed n w s cs
+    go (solved vs) e = record { values = vs; solves = refl; puts = cc }
+    go (refused c) e = let z : _≡_ {A = ℕ} 0 1 = cc in absurd (omega arith)
 
-pub placed-refused : (n w c : ℕ) (s : Solution) → refused c ≡ placed n w s → s ≡ refused c
-placed-refused n w c (solved vs) e = let z : _≡_ {A = ℕ} 0 1 = cc in absurd (omega arith)
-placed-refused n w c (refused d) e = sym e
+-- one that refused told its column
+pub refused-placed : (r : Solved) (n w c : ℕ) (s : Solution) (cs : List Float) → r ≡ Refused c → gave r cs ≡ placed n w s → s ≡ refused c
+refused-placed r n w c s cs t q = go s (subst (λ (z : Solved). gave z cs ≡ placed n w s) t q)
+  where
+    go : (s : Solution) → refused c ≡ placed n w s → s ≡ refused c
+    go (solved vs) e = let z : _≡_ {A = ℕ} 0 1 = cc in absurd (omega arith)
+    go (refused d) e = sym e

@@ -19,7 +19,7 @@ use Rattle.rule.specs.declared.Task.{Task}
 use Rattle.rule.specs.Rule.{Problem, going, latest, support, refit, look, round}
 use Rattle.rule.specs.Fits.{keeps, problem, problem-of}
 use Rattle.refit.specs.Parts.{OverSupport}
-use Rattle.refit.specs.Placed.{gave-done, gave-refused, placed-solved, placed-refused}
+use Rattle.refit.specs.Placed.{done-placed, refused-placed}
 use Rattle.rounds.specs.declared.inner.Turn.the-variants.{Again, Empty, Settled, Refused}
 use Rattle.rounds.specs.Turned.{Turned}
 use Rattle.rounds.specs.Ended.{zeroed}
@@ -67,11 +67,11 @@ module _ (task : Task) (theta target : List Float) (last : ℕ) (cs : List Float
       pub turn-refused : (c : ℕ) (x : List Float) → a ≡ A.Refused c → length y ≡ task .cols → x ≡ cleared (task .cols) y → Turned P last cs Refused x
       unfolding refit problem
       turn-refused c x t h e =
-          let no = placed-refused (task .cols) (w .0) c (P .solve (w .0)) (gave-refused a c y _ t solve) in
+          let no = refused-placed a (task .cols) (w .0) c (P .solve (w .0)) y t solve in
           record { rule = λ past i. solving past i ∙ rw (no, zeroed (task .cols) y h e, found) }
 
       pub turn-again : a ≡ A.Done → Turned P last cs (Again w) y
       unfolding refit problem
       turn-again t =
-          let p = placed-solved (task .cols) (w .0) (P .solve (w .0)) y (gave-done a y _ t solve) in
+          let p = done-placed a (task .cols) (w .0) (P .solve (w .0)) y t solve in
           record { rule = λ past i. solving past i ∙ ap (refit P past (w .0)) (p .solves) ∙ ap (λ (x : List Float). going x (w .0 ∷ past)) (sym (p .puts)) }
