@@ -24,10 +24,12 @@ unfolding fit-need
 need-most Normal rows cols h k = omega (arith, mul-le-mul h k, mul-le-mul k k)
 need-most Qr rows cols h k = let s : rows + cols ≤ most-rows + most-cols = omega arith in omega (arith, mul-le-mul s k)
 
-pub ready-within : {task : Task} {theta target cs ws : List Float} → Limited most-cols most-rows task → Sized task theta target → length cs ≡ task .cols → length ws ≡ most-space → Ready task theta target cs ws
+pub ready-within : {task : Task} {theta target cs ws : List Float} → Limited most-cols most-rows task
+    → Sized task theta target → length cs ≡ task .cols → length ws ≡ most-space → Ready task theta target cs ws
 ready-within {task} l sized long room =
     record { sized = sized; coeffs-long = long; space-long = omega (arith, room, need-most (task .solver) (task .rows) (task .cols) (l .few-rows) (l .few-cols)) }
 
-pub fit-written : {f : Fit} {report : Report} {cs : List Float} {was out : List ℕ} {n : ℕ} → Reports f report cs → Written 0 (report-line report ++ coefficient-lines cs) was out n → Written 0 (fit-lines f) was out n
+pub fit-written : {f : Fit} {report : Report} {cs : List Float} {was out : List ℕ} {n : ℕ} → Reports f report cs
+    → Written 0 (report-line report ++ coefficient-lines cs) was out n → Written 0 (fit-lines f) was out n
 unfolding fit-lines
 fit-written p w = rw (p .report, p .coeffs) at w

@@ -28,10 +28,12 @@ use Rattle.reader.specs.declared.inner.header.Head.the-variants.{Good, Wrong}
 use Rattle.frames.specs.Limits.{most-cols, most-rows, input-room}
 use Rattle.frames.specs.Exchange.{rows-formed, checked, answer-lines, answer-to, answer-of}
 
+-- where the first ladder is passed, the second refuses as w
 refused-after : (a next : Answer) (w : Refusal) → (a ≡ Done → next ≡ Refused w) → and-then a next ≡ and-then a (Refused w)
 refused-after Done next w h = h refl
 refused-after (Refused v) next w h = refl
 
+-- two tests that agree below n
 all-same : (f g : ℕ → Bool) (n : ℕ) → ((i : ℕ) → i < n → f i ≡ g i) → all f n ≡ all g n
 unfolding all
 all-same f g zero h = refl
@@ -77,16 +79,18 @@ module _ (s : List ℕ) (l : input-room ≤ length s) where
   unfolding frames-formed
   long-formed task k = rw (ne-eqb (length s) (frame-at (row-digits (task .cols)) (task .rows)) (λ e. omega (arith, rows-end k))) refl
 
+  -- so what refuses it is by its task alone
   long-checked : (task : Task) → checked s task ≡ and-then (limits most-cols most-rows task) (Refused Malformed)
   unfolding checked
   long-checked task = refused-after (limits most-cols most-rows task) _ Malformed (λ e. rw (long-formed task (limits-hold e)) refl)
 
+-- a refusal's line does not depend on the input
 same-lines : (s t : List ℕ) (task : Task) (a : Answer) → answer-lines s task (and-then a (Refused Malformed)) ≡ answer-lines t task (and-then a (Refused Malformed))
 unfolding answer-lines
 same-lines s t task Done = refl
 same-lines s t task (Refused w) = refl
 
--- its answer is by its header alone
+-- so two longer inputs of one header are answered alike
 long-answer : (s t : List ℕ) (d : Head) → input-room ≤ length s → input-room ≤ length t → answer-to s d ≡ answer-to t d
 unfolding answer-to
 long-answer s t (Good task) l k = rw (long-checked s l task, long-checked t k task) (same-lines s t task (limits most-cols most-rows task))

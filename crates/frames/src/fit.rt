@@ -28,7 +28,8 @@ fn fit_into(
     workspace: &mut [f64],
     out: &mut [u8],
 ) -> usize
-    requires { ⌜ Limited most-cols most-rows task × Sized task (now theta) (now target) × (length (now coeffs) ≡ task .cols) × (length (now workspace) ≡ most-space) × (answer-room ≤ length (now out)) ⌝ }
+    requires { ⌜ Limited most-cols most-rows task × Sized task (now theta) (now target)
+        × (length (now coeffs) ≡ task .cols) × (length (now workspace) ≡ most-space) × (answer-room ≤ length (now out)) ⌝ }
     ensures { λ r. ⌜ Written 0 (fit-lines (fit-of task (now (theta .entry)) (now (target .entry)))) (now (out .entry)) (now (out .exit)) r ⌝ }
 {
     let report = fit_ready(task, theta, target, coeffs, workspace);

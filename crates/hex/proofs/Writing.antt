@@ -34,7 +34,8 @@ module _ (w n a : ℕ) (was : List ℕ) where
       record { tail = []; high = omega arith; long = refl; left = rw e (append-nil (digits n w)); bytes = put-none (a + (n - 0)) was }
 
   -- the digit at j, just before those that are written
-  pub writing-more : {k rest g : ℕ} {out : List ℕ} → k < n → a + n ≤ length was → g ≡ glyph (rest % 16) → Writing w n a was k rest out → Writing w n a was (k + 1) (rest / 16) (set out (a + (n - 1 - k)) g)
+  pub writing-more : {k rest g : ℕ} {out : List ℕ} → k < n → a + n ≤ length was → g ≡ glyph (rest % 16) → Writing w n a was k rest out
+      → Writing w n a was (k + 1) (rest / 16) (set out (a + (n - 1 - k)) g)
   writing-more {k} {rest} {g} {out} h l e f =
       let j = n - 1 - k in
       let now : n - k ≡ j + 1 = omega arith in

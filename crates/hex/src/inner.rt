@@ -12,6 +12,7 @@ pub fn size(x: u64) -> usize
     x as usize
 }
 
+// Nor does the cast back.
 pub fn wide(x: usize) -> u64
     ensures { λ r. ⌜ r ≡ x ⌝ }
 {

@@ -1,5 +1,5 @@
 -- What was read of the input. Which bytes came, no contract can say. Assumes nothing.
-use Prim.Native.Nat.{ℕ, zero, suc, _+_}
+use Prim.Native.Nat.{ℕ, zero, suc, _+_, _≤_, _<_}
 use mathlib.Core.Path.{_≡_, subst}
 use mathlib.Core.List.{List}
 use lib.IntN.{ℤ, pos, negsuc}
@@ -14,6 +14,12 @@ abbrev pub after-read : ℕ → ℤ → Next
 after-read n (negsuc k) = N.Failed
 after-read n (pos zero) = N.Ended
 after-read n (pos (suc k)) = N.More (n + suc k)
+
+-- more bytes than n, if any came, and no more than a room of m has
+abbrev pub Behind : Next → ℕ → ℕ → Type 0
+Behind (N.More k) n m = (n < k) × (k ≤ m)
+Behind N.Ended n m = Unit
+Behind N.Failed n m = Unit
 
 -- the bytes that came stand at the head of the room
 unfoldable pub Came : Input → List ℕ → Type 0

@@ -3,7 +3,7 @@ ghost use mathlib.Core.Path.{_≡_};
 ghost use Prim.Native.Nat.{_+_, _≤_};
 ghost use lib.ListN.{length};
 ghost use Rattle.libc.specs.Io.{Moved};
-ghost use Rattle.input.specs.Read.{Came, after-read};
+ghost use Rattle.input.specs.Read.{Came, Behind, after-read};
 use libc::STDIN_FILENO;
 
 // What reading gives: so many bytes, or a read that failed.
@@ -33,15 +33,23 @@ fn after_read(n: usize, got: isize, left: usize) -> Next
     Next::Ended
 }
 
+// One read, into what the room has left behind n bytes.
+fn read_more(room: &mut [u8], n: usize) -> Next
+    requires { ⌜ n ≤ length (now room) ⌝ }
+    ensures { λ r. ⌜ Behind r n (length (now (room .exit))) ⌝ }
+{
+    let left = room.len() - n;
+    let got = libc::read(STDIN_FILENO, &mut room[n..]);
+    after_read(n, got, left)
+}
+
 // Reads until the input ends or `room` is full.
 pub fn read_whole(room: &mut [u8]) -> Input
     ensures { λ r. ⌜ Came r (now (room .exit)) ⌝ }
 {
     let mut n = 0;
     while n < room.len() {
-        let left = room.len() - n;
-        let got = libc::read(STDIN_FILENO, &mut room[n..]);
-        match after_read(n, got, left) {
+        match read_more(room, n) {
             Next::More(k) => n = k,
             Next::Ended => return Input::Whole(n),
             Next::Failed => return Input::Failed,

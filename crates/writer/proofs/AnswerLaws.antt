@@ -54,7 +54,8 @@ module _ (xs : List Float) (a : ℕ) (was : List ℕ) where
     lines = record { place = omega arith; bytes = put-none a was };
   }
 
-  pub lines-next : {j next next' w : ℕ} {out out' : List ℕ} → a ≤ length was → j < length xs → length out' ≡ length out → w ≡ bits (getD xs j nan) → Lines j out next → Written next (line 16 w) out out' next' → Lines (j + 1) out' next'
+  pub lines-next : {j next next' w : ℕ} {out out' : List ℕ} → a ≤ length was → j < length xs → length out' ≡ length out → w ≡ bits (getD xs j nan)
+      → Lines j out next → Written next (line 16 w) out out' next' → Lines (j + 1) out' next'
   lines-next {j} {next} {next'} {w} h l len e f g =
       let same : coefficient-lines (take (j + 1) xs) ≡ coefficient-lines (take j xs) ++ line 16 w = rw (add-one, take-suc xs j nan l, e, lines-append, one-line) in
       record {

@@ -53,6 +53,7 @@ fn fields(s: &[u8], solver: Solver) -> Task
     }
 }
 
+// What an input's header asks for.
 pub fn read_header(s: &[u8]) -> Head
     ensures { λ r. ⌜ r ≡ head-of (now (s .entry)) ⌝ }
 {

@@ -1,35 +1,14 @@
 -- `read_whole` meets its contract. The loop's invariant: what came has room, and the room keeps its length; what is left of the room is the measure. Assumes nothing.
-use Prim.Native.Nat.{ℕ, zero, suc, _+_, _-_, _≤_, _<_}
+use Prim.Native.Nat.{_-_, _≤_}
 use native.Mathlib.Omega.{arith}
-use mathlib.Core.Path.{_≡_, sym, _∙_}
-use mathlib.Core.List.{List}
-use lib.IntN.{ℤ, pos, negsuc}
-use lib.ListN.{length, take, drop, length-take, length-drop}
-use mir.Syntax.{w64}
-use mir.Val.{SFits}
-use mir.Facts.{toZ-ofZ}
+use mathlib.Core.Path.{_≡_}
+use lib.ListN.{length}
 use borrow.Author.Needs.{needs}
 use Rattle.io.proofs.Counting.{counts}
-use Rattle.libc.specs.Io.{Moved}
 use Rattle.input.specs.declared.inner.Next.the-variants.{More}
-use Rattle.input.specs.Read.{Came, after-read}
+use Rattle.input.specs.Read.{Came, Behind}
 use Rattle.input.proofs.inner.read_whole.Statement.{statement}
 use Rattle.input.proofs.inner.read_whole.Tie as tie
-
--- what a read answers fits its type
-moved-fits : (left : ℕ) (z : ℤ) → left ≤ 0x7fff_ffff_ffff_ffff → Moved left z → SFits w64 z
-moved-fits left (pos k) h m = record { sfits = omega arith }
-moved-fits left (negsuc k) h m = record { sfits = omega arith }
-
--- more bytes are some, and have room
-more-bytes : (n left k : ℕ) (z : ℤ) → Moved left z → More k ≡ after-read n z → (n < k) × (k ≤ n + left)
-more-bytes n left k (pos zero) m e = let z : _≡_ {A = ℕ} 0 1 = cc in absurd (omega arith)
-more-bytes n left k (pos (suc j)) m e = let same : k ≡ n + suc j = cc in (omega arith, omega arith)
-more-bytes n left k (negsuc j) m e = let z : _≡_ {A = ℕ} 0 1 = cc in absurd (omega arith)
-
--- the part of a room from n on is what is left of it
-rest : (room : List ℕ) (n : ℕ) → n ≤ length room → length (take (length room - n) (drop n room)) ≡ length room - n
-rest room n h = simp (length-take, length-drop) (omega arith)
 
 abbrev Inv-loop : tie.InvT-loop
 Inv-loop room₀ n₀ room n = (n ≤ length room) × (length room ≡ length room₀)
@@ -40,41 +19,15 @@ abbrev μ-loop : tie.MeasureT-loop
 loop-holds : tie.Need-loop-holds Inv-loop μ-loop
 loop-holds c = search needs
 
-sub-left : tie.Need-sub-left Inv-loop μ-loop
-sub-left c = search needs
-
-sub-read : tie.Need-sub-read Inv-loop μ-loop
-sub-read c = search needs
-
-part-read-start : tie.Need-part-read-start Inv-loop μ-loop
-part-read-start c = search needs
-
-part-read-end : tie.Need-part-read-end Inv-loop μ-loop
-part-read-end c = search needs
-
-read-requires : tie.Need-read-requires Inv-loop μ-loop
-read-requires c κs = search needs
-
--- the read had what was left of the room
-moved : (c : tie.After-read Inv-loop μ-loop) → let turn = c .before .before .before .loop in Moved (length (turn .room) - turn .n) (c .read .result)
-moved c = let turn = c .before .before .before .loop in rw (rest (turn .room) (turn .n) (turn .inv .0)) at (c .read .ensures)
-
-got-fits : (c : tie.After-read Inv-loop μ-loop) → SFits w64 (c .read .result)
-got-fits c = moved-fits _ _ (omega arith) (moved c)
-
-after-read-requires : tie.Need-after-read-requires Inv-loop μ-loop
-after-read-requires c κs = let read = c .before .before in (rw (toZ-ofZ (got-fits read)) (moved read), omega arith)
+read-more-requires : tie.Need-read-more-requires Inv-loop μ-loop
+read-more-requires c κs = search needs
 
 enum-known-k : tie.Need-enum-known-k Inv-loop μ-loop
 enum-known-k c = search needs
 
 -- the bytes that the pattern binds
-more : (c : tie.After-k Inv-loop μ-loop) → let turn = c .before .before .before .before .before .before .before .before .loop in (turn .n < c .k .given .0 .0) × (c .k .given .0 .0 ≤ turn .n + (length (turn .room) - turn .n))
-more c =
-    let after = c .before .before in
-    let read = after .before .before .before in
-    let turn = read .before .before .before .loop in
-    more-bytes (turn .n) (length (turn .room) - turn .n) _ (read .read .result) (moved read) (sym (c .k .given .1) ∙ rw (toZ-ofZ (got-fits read)) at (after .after-read .ensures))
+more : (c : tie.After-k Inv-loop μ-loop) → let read = c .before .before .before .before in Behind (More (c .k .given .0 .0)) (read .before .before .before .loop .n) (length (read .read-more .last .0))
+more c = rw (c .k .given .1) at (c .before .before .before .before .read-more .ensures)
 
 loop-less : tie.Need-loop-less Inv-loop μ-loop
 loop-less c = omega (arith, more (c .before))
@@ -111,5 +64,5 @@ returns-3 c = counts _ _ (omega arith)
 
 pub read-whole-spec : {M : Type 1} → statement M
 read-whole-spec =
-    tie.close (tie.spec Inv-loop μ-loop loop-holds sub-left sub-read part-read-start part-read-end read-requires after-read-requires enum-known-k
-    loop-less loop-again enum-told same-length returns enum-told-2 same-length-2 returns-2 same-length-3 returns-3)
+    tie.close (tie.spec Inv-loop μ-loop loop-holds read-more-requires enum-known-k loop-less loop-again enum-told same-length
+    returns enum-told-2 same-length-2 returns-2 same-length-3 returns-3)
