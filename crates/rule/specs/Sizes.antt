@@ -27,8 +27,7 @@ task-need task = fit-need (task .solver) (task .rows) (task .cols)
 -- 1, 2, 3: more columns or rows than these, or more than 1,000 rounds
 unfoldable pub limits : ℕ → ℕ → Task → Answer
 limits cols rows task =
-    refuse-if (ltb cols (task .cols)) ManyColumns
-    (refuse-if (ltb rows (task .rows)) ManyRows
+    refuse-if (ltb cols (task .cols)) ManyColumns (refuse-if (ltb rows (task .rows)) ManyRows
     (refuse-if (ltb 1000 (task .setup .«max_iter»)) ManyRounds
     Done))
 
