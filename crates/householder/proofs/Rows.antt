@@ -1,5 +1,6 @@
 -- The matrix after a column's step, row by row. Assumes nothing.
 use mathlib.Core.Path.{_≡_, refl, sym, ap, _∙_, subst}
+use mathlib.Core.Bool.{and-false}
 use mathlib.Core.Logic.{_⊎_, ⊎-elim}
 use mathlib.Core.List.{List}
 use Prim.Native.Nat.{ℕ, _+_, _*_, _≤_, _<_}
@@ -38,14 +39,7 @@ module _ (j : ℕ) (x : Float) (t : ℕ → Float) (e : Entry) where
 
   pub new-left : (i c : ℕ) → c < j → New i c ≡ e i c
   unfolding store lose
-  new-left i c h =
-      ⊎-elim
-      (λ k. let z : i ≤ j = omega arith in simp (le-ltb j i z, lt-leb j i k))
-      (λ k. ⊎-elim (λ z. simp (lt-ltb j i z, ne-eqb c j no, le-leb j i k, lt-leb j c h)) (λ z. simp (le-ltb j i z, le-leb j i k, lt-leb j c h)) (lt-or-ge j i))
-      (lt-or-ge i j)
-    where
-      no : c ≡ j → ⊥
-      no q = omega arith
+  new-left i c h = simp (ne-eqb c j (λ q. omega arith), lt-leb j c h, and-false)
 
   pub new-lead : (c : ℕ) → j ≤ c → New j c ≡ less (e j c) (times (t c) x)
   unfolding store lose

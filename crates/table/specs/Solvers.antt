@@ -64,11 +64,11 @@ unfolding opened
 L2 = refl
 
 -- L3: a NaN on the diagonal stays the pivot, one below it is passed over
-pub L3 : U.pivot-row 2 (nan ∷ one ∷ two ∷ one ∷ []) 0 2 ≡ 0
+pub L3 : U.pivot-row 2 (nan ∷ one ∷ two ∷ one ∷ []) 0 ≡ 0
 unfolding opened
 L3 = refl
 
-pub L3-below : U.pivot-row 2 (one ∷ one ∷ nan ∷ one ∷ []) 0 2 ≡ 0
+pub L3-below : U.pivot-row 2 (one ∷ one ∷ nan ∷ one ∷ []) 0 ≡ 0
 unfolding opened
 L3-below = refl
 
