@@ -1,7 +1,7 @@
 -- The matrix after a column's step, row by row. Assumes nothing.
 use mathlib.Core.Path.{_≡_, refl, sym, ap, _∙_, subst}
 use mathlib.Core.Bool.{and-false}
-use mathlib.Core.Logic.{_⊎_, ⊎-elim}
+use mathlib.Core.Logic.{⊎-elim}
 use mathlib.Core.List.{List}
 use Prim.Native.Nat.{ℕ, _+_, _*_, _≤_, _<_}
 use native.Mathlib.Nat.{eq-or-lt-of-le}
@@ -84,7 +84,8 @@ module _ (m n j : ℕ) (x : Float) (t l : List Float) (size : length l ≡ m * n
       (λ r c d h. w .rest (r * n + c) (λ c' a b q. rows-apart n r j c c' d h b q))
 
   -- the step of a row below it: v is read from column j first, and v / x stored there last
-  module _ (i : ℕ) (v : Float) (l₀ l₁ : List Float) (low : j < i) (high : i < m) (w : Turned i l₀) (lead : v ≡ cell n l₀ i j) (u : Wrote (λ c. i * n + c) (j + 1) n (λ c. less (at l₀ (i * n + c)) (times (at t c) v)) l₀ l₁) where
+  module _ (i : ℕ) (v : Float) (l₀ l₁ : List Float) (low : j < i) (high : i < m) (w : Turned i l₀) (lead : v ≡ cell n l₀ i j)
+      (u : Wrote (λ c. i * n + c) (j + 1) n (λ c. less (at l₀ (i * n + c)) (times (at t c) v)) l₀ l₁) where
     abbrev e : Entry
     e = cell n l
 
