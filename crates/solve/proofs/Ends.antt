@@ -7,7 +7,7 @@ use lib.Ieee.{Float}
 use Rattle.steps.specs.Loops.{Way}
 use Rattle.steps.specs.Space.{cleared}
 use Rattle.refusal.specs.Answers.{told, answered, Solution}
-use Rattle.refusal.specs.Told.{ended-told, left-told}
+use Rattle.refusal.specs.Told.{ended-told, final-told}
 use Rattle.refusal.specs.declared.Answer.{Answer}
 use Rattle.refusal.specs.declared.Answer.the-variants.{Done, Refused}
 use Rattle.refusal.specs.declared.Refusal.{Refusal}
@@ -24,7 +24,7 @@ module _ {why : Refusal} {solve : Way (List Float × List Float)} {a b : List Fl
 
   pub square-solved : (s : Solved) {a' b' : List Float} {r : Answer} → sizes ≡ Done → told s (a', b') ≡ solve → r ≡ answered why s → SquareCall why solve a b n a' b' r
   square-solved s {a'} {b'} e t q =
-      let both = left-told {A = List Float × List Float} s (a', b') in
+      let both = final-told {A = List Float × List Float} s (a', b') in
       record {
         sizes = sizes;
         judged = judged;
@@ -43,7 +43,7 @@ module _ {a b : List Float} {n : ℕ} {w : List Float} {sizes : Answer} (judged 
         sizes = sizes;
         judged = judged;
         answer = rw (e, ← t) (q ∙ sym (ended-told SmallPivot s b'));
-        right = rw (e, ← t) (sym (left-told s b'));
+        right = rw (e, ← t) (sym (final-told s b'));
         space = rw e k;
       }
 
