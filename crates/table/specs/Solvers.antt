@@ -59,8 +59,10 @@ C2-below = refl
 
 -- L2: the second pivot of a 3 by 3 matrix swaps its whole row, the first factor with it
 pub L2 : U.lu 3 (two ∷ one ∷ one ∷ one ∷ lit 0x3fe0000000000000 ∷ two ∷ -one ∷ three ∷ one ∷ []) (one ∷ two ∷ four ∷ [])
-    ≡ going ((two ∷ one ∷ one ∷ lit 0xbfe0000000000000 ∷ lit 0x400c000000000000 ∷ lit 0x3ff8000000000000 ∷ lit 0x3fe0000000000000 ∷ +zero ∷ lit 0x3ff8000000000000 ∷ []),
-    (lit 0xbfdb6db6db6db6db ∷ lit 0x3feb6db6db6db6db ∷ one ∷ []))
+    ≡ going (
+      (two ∷ one ∷ one ∷ lit 0xbfe0000000000000 ∷ lit 0x400c000000000000 ∷ lit 0x3ff8000000000000 ∷ lit 0x3fe0000000000000 ∷ +zero ∷ lit 0x3ff8000000000000 ∷ []),
+      (lit 0xbfdb6db6db6db6db ∷ lit 0x3feb6db6db6db6db ∷ one ∷ []),
+    )
 unfolding opened
 L2 = refl
 

@@ -48,7 +48,7 @@ returns c =
     let cells = start .pre .0 .cells in
     let at-clear = c .before .before in
     let head = cleared-head (length (now (args .a)) + args .m) (args .m * args .n + 2 * args .m + 2 * args .n) (solve .least-into .last .1 .1 .1 .1 .1 .0) space
-        (omega arith) (start .pre .1) (solve .least-into .kept .1 .1 .1 .1 .1 .0) in
+    (omega arith) (start .pre .1) (solve .least-into .kept .1 .1 .1 .1 .1 .0) in
     (solve .least-into .ensures, at-clear .clear .ensures ∙ rw (at-clear .before .least-need .ensures) head)
 
 pub least-ready-spec : {M : Type 1} → statement M

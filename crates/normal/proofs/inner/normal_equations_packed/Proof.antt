@@ -95,7 +95,7 @@ returns c =
     let u = cholesky .cholesky .last .0 in
     let first = copied e s t (omega arith) (copy .copy-within .ensures) in
     let second = copied-again e s t u (again .copy-within2 .last .0) (omega arith) (copy .copy-within .kept .0)
-        (cholesky .cholesky .kept .0) (copy .copy-within .ensures) (again .copy-within2 .ensures) in
+    (cholesky .cholesky .kept .0) (copy .copy-within .ensures) (again .copy-within2 .ensures) in
     normal-by-lu _ _ _ _ (lu .lu .result) _ _ _ (lu .lu .last .0) (lu .lu .last .1 .0)
     (rw first at (cholesky .cholesky .ensures)) (refused .enum-told2 .given .1) (rw second at (lu .lu .ensures))
 
