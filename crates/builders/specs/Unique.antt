@@ -6,8 +6,10 @@ use lib.Ieee.{Float}
 use Rattle.refusal.specs.declared.Answer.{Answer}
 use Rattle.builders.specs.Calls.{JtjCall, JtrCall}
 
-pub jtj-unique : (damp : Float → Float) (jac : List Float) (rows n : ℕ) (out out' out'' : List Float) (r s : Answer) → JtjCall damp jac rows n out out' r → JtjCall damp jac rows n out out'' s → (r ≡ s) × (out' ≡ out'')
+pub jtj-unique : (damp : Float → Float) (jac : List Float) (rows n : ℕ) (out out' out'' : List Float) (r s : Answer) →
+    JtjCall damp jac rows n out out' r → JtjCall damp jac rows n out out'' s → (r ≡ s) × (out' ≡ out'')
 jtj-unique damp jac rows n out out' out'' r s p q = (cc, cc)
 
-pub jtr-unique : (jac t : List Float) (rows n : ℕ) (out out' out'' : List Float) (r s : Answer) → JtrCall jac t rows n out out' r → JtrCall jac t rows n out out'' s → (r ≡ s) × (out' ≡ out'')
+pub jtr-unique : (jac t : List Float) (rows n : ℕ) (out out' out'' : List Float) (r s : Answer) →
+    JtrCall jac t rows n out out' r → JtrCall jac t rows n out out'' s → (r ≡ s) × (out' ≡ out'')
 jtr-unique jac t rows n out out' out'' r s p q = (cc, cc)

@@ -1,7 +1,8 @@
 -- The 54 digits of the whole part q of the root of s * 2 ^ 54, and the two sides of their rounding. Assumes nothing.
 use mathlib.Core.Path.{_≡_, refl, sym, ap, _∙_}
 use Prim.Native.Nat.{ℕ, zero, suc, _+_, _-_, _*_, _/_, _%_, _^_, _≤_, _<_}
-use native.Mathlib.Nat.{le-of-eq, le-of-suc-le-suc, lt-of-lt-of-le, lt-of-le-of-lt, lt-of-not-le, mul-comm, mul-assoc, mul-left-comm, mul-mul-mul-comm, add-mul, mul-le-mul, mul-le-mul-right, lt-of-mul-lt-mul-right}
+use native.Mathlib.Nat.{le-of-eq, le-of-suc-le-suc, lt-of-lt-of-le, lt-of-le-of-lt, lt-of-not-le, mul-comm, mul-assoc}
+use native.Mathlib.Nat.{mul-left-comm, mul-mul-mul-comm, add-mul, mul-le-mul, mul-le-mul-right, lt-of-mul-lt-mul-right}
 use native.Mathlib.Omega.{arith}
 use lib.Dec.{lit≤}
 use lib.Arith.{lt-of-le-ne}

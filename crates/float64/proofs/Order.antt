@@ -2,7 +2,8 @@
 use mathlib.Core.Path.{_≡_, sym, ap, _∙_}
 use mathlib.Core.Logic.{_⊎_, inl, inr}
 use Prim.Native.Nat.{ℕ, zero, suc, _+_, _-_, _*_, _/_, _%_, _^_, _≤_, _<_}
-use native.Mathlib.Nat.{le-trans, le-of-eq, le-of-suc-le-suc, lt-of-not-le, not-le-of-lt, mul-comm, mul-assoc, add-mul, mul-le-mul, mul-one, eq-zero-or-pos, le-antisymm, add-zero, eq-or-lt-of-le, le-of-lt}
+use native.Mathlib.Nat.{le-trans, le-of-eq, le-of-suc-le-suc, lt-of-not-le, not-le-of-lt, mul-comm, mul-assoc, add-mul}
+use native.Mathlib.Nat.{mul-le-mul, mul-one, eq-zero-or-pos, le-antisymm, add-zero, eq-or-lt-of-le, le-of-lt}
 use native.Mathlib.Omega.{arith}
 use lib.Pow.{pow-add}
 use Rattle.float64.specs.Rule.{unitsOf, Nearest}

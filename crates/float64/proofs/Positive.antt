@@ -12,11 +12,11 @@ use lib.Ieee.Bits.{ofBits-toBits}
 use lib.Ieee.Exact.{HasValue}
 use lib.Ieee.Fits.{up-pos}
 use lib.Ieee.Positive.{positive}
-use Rattle.float64.specs.Root.{count, rootOf}
+use Rattle.float64.specs.Root.{units, rootOf}
 use Rattle.float64.specs.Rule.{unitsOf, Nearest}
 use Rattle.float64.proofs.Form.{form, nearest-form}
 use Rattle.float64.proofs.Values.{in-range, value}
-use Rattle.float64.proofs.Ways.{count-is, root-of-units}
+use Rattle.float64.proofs.Ways.{units-is, root-of-units}
 
 -- ---- what the tests say of a finite value above zero
 pos-no-nan : (x : Float) → T (positive x) → T (not (isNan x))
@@ -58,8 +58,8 @@ module _ (x : Float) (f : T (fits binary64 x)) (p : T (positive x)) where
   has-units = value x f (pos-no-nan x p) (pos-eq x p) (pos-lt x p) (pos-finite x f p)
 
   -- x lies strictly between the squares of the two midpoints around its root
-  pub root-nearest : Nearest (count x) (toBits binary64 (rootOf x))
+  pub root-nearest : Nearest (units x) (toBits binary64 (rootOf x))
   root-nearest =
-      subst (λ (n : ℕ). Nearest n (toBits binary64 (rootOf x))) (sym (count-is x (unitsOf b) has-units))
+      subst (λ (n : ℕ). Nearest n (toBits binary64 (rootOf x))) (sym (units-is x (unitsOf b) has-units))
       (subst (λ (v : Float). Nearest (unitsOf b) (toBits binary64 v)) (root-of-units x (unitsOf b) has-units (pos-eq x p))
       (nearest-form (unitsOf b) (form b (range .0) (range .1))))

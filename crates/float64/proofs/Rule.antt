@@ -11,7 +11,7 @@ use lib.Ieee.{Float, binary64, fits, ofBits, nan, inf, fin, up, down, eq, lt, di
 use lib.Ieee.Bits.{ofBits-toBits, is-true}
 use lib.Ieee.Fits.{nan-fits, inf-fits, cond-fits}
 use lib.Ieee.Positive.{positive}
-use Rattle.float64.specs.Root.{count, nearestRoot, rootOf}
+use Rattle.float64.specs.Root.{units, nearestRoot, rootOf}
 use Rattle.float64.specs.Rule.{IsRoot, SqrtCall}
 use Rattle.float64.proofs.Order.{nearest-only}
 use Rattle.float64.proofs.Pattern.{nearest-fits}
@@ -24,8 +24,8 @@ unfolding rootOf
 root-fits nan f = nan-fits binary64
 root-fits (inf s) f = cond-fits binary64 s nan (inf false) (nan-fits binary64) (inf-fits binary64 false)
 root-fits (fin s m e) f =
-    cond-fits binary64 (eqb m 0) (fin s m e) (cond s nan (nearestRoot (count (fin s m e)))) f
-    (cond-fits binary64 s nan (nearestRoot (count (fin s m e))) (nan-fits binary64) (nearest-fits (count (fin s m e))))
+    cond-fits binary64 (eqb m 0) (fin s m e) (cond s nan (nearestRoot (units (fin s m e)))) f
+    (cond-fits binary64 s nan (nearestRoot (units (fin s m e))) (nan-fits binary64) (nearest-fits (units (fin s m e))))
 
 -- ---- the tests at a finite value
 zero-is-zero : (s : Bool) (e : ℤ) → T (eqb (0 * up e * 1) (0 * down e) && (Bool·beq s false || eqb (0 * up e * 1) 0))
@@ -70,7 +70,7 @@ root-only (fin true (suc m) e) r f g w =
 root-only (fin false (suc m) e) r f g w =
     let x = fin false (suc m) e in
     let p : T (positive x) = lt→ltb 0 (suc m) (omega arith) in
-    same-bits r (rootOf x) g (root-fits x f) (nearest-only (count x) (toBits binary64 r) (toBits binary64 (rootOf x)) (w .of-number p) (root-nearest x f p))
+    same-bits r (rootOf x) g (root-fits x f) (nearest-only (units x) (toBits binary64 r) (toBits binary64 (rootOf x)) (w .of-number p) (root-nearest x f p))
 
 -- So two answers that meet the rule are equal.
 pub root-unique : (x r s : Float) → T (fits binary64 x) → T (fits binary64 r) → T (fits binary64 s) → IsRoot x r → IsRoot x s → r ≡ s

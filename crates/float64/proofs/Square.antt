@@ -17,7 +17,8 @@ sq-next r =
     let b : r * (r + 1) ≡ r * r + r * 1 = mul-add r r 1 in
     omega arith
 
-isqrt-step : (r n : ℕ) → r * r ≤ n / 4 → n / 4 < (r + 1) * (r + 1) → (b : Bool) → (T b → (2 * r + 1) * (2 * r + 1) ≤ n) → (T (not b) → n < (2 * r + 1) * (2 * r + 1)) → Whole n (cond b (2 * r + 1) (2 * r))
+isqrt-step : (r n : ℕ) → r * r ≤ n / 4 → n / 4 < (r + 1) * (r + 1) → (b : Bool) →
+    (T b → (2 * r + 1) * (2 * r + 1) ≤ n) → (T (not b) → n < (2 * r + 1) * (2 * r + 1)) → Whole n (cond b (2 * r + 1) (2 * r))
 isqrt-step r n l h true y z = record { lo = y tt; hi = omega (arith, sq-next (2 * r + 1), sq-next (2 * r), sq-twice r, sq-next r) }
 isqrt-step r n l h false y z = record { lo = omega (arith, sq-twice r); hi = z tt }
 

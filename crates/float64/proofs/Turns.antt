@@ -10,7 +10,7 @@ use Rattle.float64.proofs.Square.{sq-next}
 -- after i turns q is the whole part of the root of the digits used, rem is what is left of them, and rest has the digits to come
 pub record Turn (s rest q rem i : ℕ) : Type 0 where
   pub most : i ≤ 54
-  pub left : rest < 2 ^ 54
+  pub low : rest < 2 ^ 54
   pub short : rem ≤ 2 * q
   pub few : q < 2 ^ i
   pub all : s * (2 ^ i * 2 ^ i) ≡ (q * q + rem) * 2 ^ 54 + rest
@@ -31,8 +31,8 @@ pub one : (s rest q rem i : ℕ) → Turn s rest q rem i → i < 54 → q * 4 + 
     → Turn s (rest % 2 ^ 52 * 4) (q * 2 + 1) (rem * 4 + rest / 2 ^ 52 - (q * 4 + 1)) (i + 1)
 one s rest q rem i t h l = record {
   most = omega arith;
-  left = omega arith;
-  short = omega (arith, t .short, t .left);
+  low = omega arith;
+  short = omega (arith, t .short, t .low);
   few = omega (arith, t .few, power i);
   all = omega (arith, t .all, grown s i, sq-next (q * 2), sq2 q);
 }
@@ -41,8 +41,8 @@ pub nil : (s rest q rem i : ℕ) → Turn s rest q rem i → i < 54 → rem * 4 
     → Turn s (rest % 2 ^ 52 * 4) (q * 2) (rem * 4 + rest / 2 ^ 52) (i + 1)
 nil s rest q rem i t h l = record {
   most = omega arith;
-  left = omega arith;
-  short = omega (arith, t .short, t .left);
+  low = omega arith;
+  short = omega (arith, t .short, t .low);
   few = omega (arith, t .few, power i);
   all = omega (arith, t .all, grown s i, sq2 q);
 }
@@ -50,11 +50,11 @@ nil s rest q rem i t h l = record {
 pub done : (s rest q rem i : ℕ) → Turn s rest q rem i → 54 ≤ i → Whole (s * 2 ^ 54) q
 done s rest q rem i t h =
     let e : s * (2 ^ 54 * 2 ^ 54) ≡ (q * q + rem) * 2 ^ 54 + rest = subst (λ (x : ℕ). s * (2 ^ x * 2 ^ x) ≡ (q * q + rem) * 2 ^ 54 + rest) (le-antisymm (t .most) h) (t .all) in
-    let f : q * q + rem ≡ s * 2 ^ 54 = omega (arith, t .left) in
+    let f : q * q + rem ≡ s * 2 ^ 54 = omega (arith, t .low) in
     record { lo = omega arith; hi = omega (arith, t .short, sq-next q) }
 
 pub start : (s : ℕ) → s < 2 ^ 54 → Turn s s 0 0 0
-start s h = record { most = omega arith; left = h; short = omega arith; few = omega arith; all = omega arith }
+start s h = record { most = omega arith; low = h; short = omega arith; few = omega arith; all = omega arith }
 
 -- ---- a turn of the loop that brings a number to 53 digits
 pub record Shift (n s e : ℕ) : Type 0 where

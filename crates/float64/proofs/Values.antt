@@ -62,7 +62,8 @@ unfolding ofFields
 fields-value zero t h = subst (λ (u : ℕ). HasValue (odd 53 false t 0 1074) false u (2 ^ 1074)) (mul-one t) (odd-sign 53 false t 0 1074)
 fields-value (suc x) t h =
     let z : suc x - 1 ≡ x = omega arith in
-    subst (λ (v : Float). HasValue v false (unitsAt (suc x) t) (2 ^ 1074)) (sym (ap (λ (a : Bool). cond a (cond (eqb t 0) (inf false) nan) (odd 53 false (2 ^ 52 + t) x 1074)) (ne-eqb (suc x) 2047 (no-ones x h))))
+    subst (λ (v : Float). HasValue v false (unitsAt (suc x) t) (2 ^ 1074))
+    (sym (ap (λ (a : Bool). cond a (cond (eqb t 0) (inf false) nan) (odd 53 false (2 ^ 52 + t) x 1074)) (ne-eqb (suc x) 2047 (no-ones x h))))
     (subst (λ (u : ℕ). HasValue (odd 53 false (2 ^ 52 + t) x 1074) false u (2 ^ 1074))
     (sym (ap (λ (a : Bool). cond a t ((2 ^ 52 + t) * 2 ^ (suc x - 1))) (eqb·suc-zero x) ∙ ap (λ (y : ℕ). (2 ^ 52 + t) * 2 ^ y) z))
     (odd-sign 53 false (2 ^ 52 + t) x 1074))

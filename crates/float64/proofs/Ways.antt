@@ -10,7 +10,7 @@ use lib.Ieee.{Float, binary64, fits, ofBits, nan, inf, fin, up, down, eq, lt, di
 use lib.Ieee.Bits.{ofBits-toBits}
 use lib.Ieee.Exact.{HasValue}
 use lib.Ieee.Fits.{down-pos}
-use Rattle.float64.specs.Root.{count, nearestRoot, rootOf}
+use Rattle.float64.specs.Root.{units, nearestRoot, rootOf}
 use Rattle.float64.proofs.Tests.{no-digits, some-digits, digits-below}
 
 -- ---- the root where it is not rounded; a NaN is written 0.0 / 0.0
@@ -25,7 +25,7 @@ pub root-zero : (x : Float) → eq x (ofBits binary64 0) ≡ true → x ≡ root
 unfolding rootOf eq ofBits
 root-zero nan h = absurd (false≢true h)
 root-zero (inf s) h = absurd (false≢true h)
-root-zero (fin s m e) h = sym (ap (λ (t : Bool). cond t (fin s m e) (cond s nan (nearestRoot (count (fin s m e))))) (eq-eqb m 0 (no-digits s m e h)))
+root-zero (fin s m e) h = sym (ap (λ (t : Bool). cond t (fin s m e) (cond s nan (nearestRoot (units (fin s m e))))) (eq-eqb m 0 (no-digits s m e h)))
 
 pub root-neg : (x : Float) → lt x (ofBits binary64 0) ≡ true → quotient ≡ rootOf x
 unfolding lt ofBits div rootOf
@@ -40,11 +40,11 @@ unfolding rootOf ofBits
 root-inf x f h = let e : x ≡ inf false = sym (ofBits-toBits binary64 x f) ∙ ap (ofBits binary64) h in e ∙ sym (ap rootOf e)
 
 -- ---- a value that has u units and is not zero has the root of u units
-pub count-is : (x : Float) (u : ℕ) → HasValue x false u (2 ^ 1074) → count x ≡ u
-unfolding count
-count-is nan u v = absurd v
-count-is (inf s) u v = absurd v
-count-is (fin s m e) u v = ap (λ (y : ℕ). y / down e) (v .1) ∙ mul-div-cancel u (down-pos e)
+pub units-is : (x : Float) (u : ℕ) → HasValue x false u (2 ^ 1074) → units x ≡ u
+unfolding units
+units-is nan u v = absurd v
+units-is (inf s) u v = absurd v
+units-is (fin s m e) u v = ap (λ (y : ℕ). y / down e) (v .1) ∙ mul-div-cancel u (down-pos e)
 
 pub root-of-units : (x : Float) (u : ℕ) → HasValue x false u (2 ^ 1074) → eq x (ofBits binary64 0) ≡ false → nearestRoot u ≡ rootOf x
 unfolding rootOf eq ofBits
@@ -53,4 +53,4 @@ root-of-units (inf s) u v k = absurd v
 root-of-units (fin true m e) u v k = absurd (true≢false (v .0))
 root-of-units (fin false m e) u v k =
     let x = fin false m e in
-    sym (ap (λ (t : Bool). cond t x (nearestRoot (count x))) (ne-eqb m 0 (some-digits m e k)) ∙ ap nearestRoot (count-is x u v))
+    sym (ap (λ (t : Bool). cond t x (nearestRoot (units x))) (ne-eqb m 0 (some-digits m e k)) ∙ ap nearestRoot (units-is x u v))

@@ -10,10 +10,10 @@ isqrt zero n = 0
 isqrt (suc d) n = let r = 2 * isqrt d (n / 4) in cond (leb ((r + 1) * (r + 1)) n) (r + 1) r
 
 -- a finite value's magnitude in units of the smallest value, 2 ^ -1074: a whole number for what binary64 holds
-unfoldable pub count : Float → ℕ
-count nan = 0
-count (inf s) = 0
-count (fin s m e) = m * up e * 2 ^ 1074 / down e
+unfoldable pub units : Float → ℕ
+units nan = 0
+units (inf s) = 0
+units (fin s m e) = m * up e * 2 ^ 1074 / down e
 
 -- The root of n units is √(n * 2 ^ 1074) units. Its whole part, of 538 digits or more, is rounded once to the 53 that are kept. That rounds the root itself:
 -- no root is midway between two values of binary64, or so near to midway that what the whole part leaves off matters. (n is below 2 ^ 2098.)
@@ -24,7 +24,7 @@ nearestRoot n = round binary64 false (isqrt 1586 (n * 2 ^ 1074)) (2 ^ 1074)
 unfoldable pub rootOf : Float → Float
 rootOf nan = nan
 rootOf (inf s) = cond s nan (inf false)
-rootOf (fin s m e) = cond (eqb m 0) (fin s m e) (cond s nan (nearestRoot (count (fin s m e))))
+rootOf (fin s m e) = cond (eqb m 0) (fin s m e) (cond s nan (nearestRoot (units (fin s m e))))
 
 -- the absolute value: the sign cleared, and a NaN stays
 unfoldable pub absOf : Float → Float

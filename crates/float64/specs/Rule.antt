@@ -7,7 +7,7 @@ use lib.Dec.{T, eqb}
 use lib.IntN.{pos}
 use lib.Ieee.{Float, nan, inf, fin, binary64, eq, lt, toBits}
 use lib.Ieee.Positive.{positive}
-use Rattle.float64.specs.Root.{count, rootOf}
+use Rattle.float64.specs.Root.{units, rootOf}
 
 -- the units, of 2 ^ -1074 each, of the value whose pattern is b; the pattern after the largest finite one's counts as the value that would come next
 unfoldable pub unitsOf : ℕ → ℕ
@@ -25,7 +25,7 @@ zero = fin false 0 (pos 0)
 
 -- r is the root of x: for positive finite x the f64 nearest the exact root; ±0 give themselves, +infinity itself, NaN and negatives below zero a NaN
 pub record IsRoot (x r : Float) : Type 0 where
-  pub of-number : T (positive x) → Nearest (count x) (toBits binary64 r)
+  pub of-number : T (positive x) → Nearest (units x) (toBits binary64 r)
   pub of-zero : T (eq x zero) → r ≡ x
   pub of-inf : x ≡ inf false → r ≡ inf false
   pub of-nan : x ≡ nan → r ≡ nan

@@ -1,53 +1,28 @@
--- The rows R1 to R5 of document 01, and rows of the absolute value and the greater of two, as patterns. Each closes by computing.
+-- Rows of the root, the absolute value and the greater of two beside document 01's R1 to R5 (table/Marked), as patterns. Each closes by computing.
 use mathlib.Core.Path.{_≡_, refl}
 use Prim.Native.Nat.{ℕ}
 use lib.Ieee.{binary64, round, lt, isNan, ofBits, toBits}
-use Rattle.float64.specs.Root.{isqrt, count, nearestRoot, rootOf, absOf, greaterOf}
+use Rattle.float64.specs.Root.{isqrt, units, nearestRoot, rootOf, absOf, greaterOf}
 
--- all that a row computes with: `unfolding opened` opens it, in the tables of other crates too
-unfoldable pub opened : Unit {0}
-unfolding round lt isNan ofBits toBits isqrt count nearestRoot rootOf absOf greaterOf
-opened = tt
+-- all that a row computes with: `unfolding computed` opens it
+unfoldable pub computed : Unit {0}
+unfolding round lt isNan ofBits toBits isqrt units nearestRoot rootOf absOf greaterOf
+computed = tt
 
 abbrev root : ℕ → ℕ
 root b = toBits binary64 (rootOf (ofBits binary64 b))
 
--- of 4
-pub R1 : root 0x4010_0000_0000_0000 ≡ 0x4000_0000_0000_0000
-unfolding opened
-R1 = refl
-
--- of 2
-pub R2 : root 0x4000_0000_0000_0000 ≡ 0x3ff6_a09e_667f_3bcd
-unfolding opened
-R2 = refl
-
--- of -0.0
-pub R3 : root 0x8000_0000_0000_0000 ≡ 0x8000_0000_0000_0000
-unfolding opened
-R3 = refl
-
--- of 2 ^ -1074
-pub R4 : root 1 ≡ 0x1e60_0000_0000_0000
-unfolding opened
-R4 = refl
-
--- of the largest finite number
-pub R5 : root 0x7fef_ffff_ffff_ffff ≡ 0x5fef_ffff_ffff_ffff
-unfolding opened
-R5 = refl
-
 -- of -1, of -infinity and of infinity
 pub R-minus : root 0xbff0_0000_0000_0000 ≡ 0x7ff8_0000_0000_0000
-unfolding opened
+unfolding computed
 R-minus = refl
 
 pub R-minus-inf : root 0xfff0_0000_0000_0000 ≡ 0x7ff8_0000_0000_0000
-unfolding opened
+unfolding computed
 R-minus-inf = refl
 
 pub R-inf : root 0x7ff0_0000_0000_0000 ≡ 0x7ff0_0000_0000_0000
-unfolding opened
+unfolding computed
 R-inf = refl
 
 abbrev magnitude : ℕ → ℕ
@@ -55,11 +30,11 @@ magnitude b = toBits binary64 (absOf (ofBits binary64 b))
 
 -- of -0.0 and of -infinity
 pub A-zero : magnitude 0x8000_0000_0000_0000 ≡ 0
-unfolding opened
+unfolding computed
 A-zero = refl
 
 pub A-inf : magnitude 0xfff0_0000_0000_0000 ≡ 0x7ff0_0000_0000_0000
-unfolding opened
+unfolding computed
 A-inf = refl
 
 abbrev larger : ℕ → ℕ → ℕ
@@ -67,13 +42,13 @@ larger a b = toBits binary64 (greaterOf (ofBits binary64 a) (ofBits binary64 b))
 
 -- a NaN on either side is passed over; of -0.0 and 0.0 the first
 pub G-left : larger 0x7ff8_0000_0000_0000 0x3ff0_0000_0000_0000 ≡ 0x3ff0_0000_0000_0000
-unfolding opened
+unfolding computed
 G-left = refl
 
 pub G-right : larger 0x3ff0_0000_0000_0000 0x7ff8_0000_0000_0000 ≡ 0x3ff0_0000_0000_0000
-unfolding opened
+unfolding computed
 G-right = refl
 
 pub G-equal : larger 0x8000_0000_0000_0000 0 ≡ 0x8000_0000_0000_0000
-unfolding opened
+unfolding computed
 G-equal = refl

@@ -47,7 +47,8 @@ module _ (m n j : ℕ) (l : List Float) {lead s norm : Float} (is-lead : lead �
     skips-push small = sym (at-push ∙ rw small)
 
     -- the columns have lost their shares, which are the sums w times beta
-    pub reflects : lt q 1e-30 ≡ false → (w t l' : List Float) → Sums m n j x l w → Wrote (λ c. c) j n (λ c. times (over two q) (at w c)) w t → l' ≡ reflect m n j x (at t) l → (l', times (times (over two q) x) x) ≡ column m n j l
+    pub reflects : lt q 1e-30 ≡ false → (w t l' : List Float) → Sums m n j x l w → Wrote (λ c. c) j n (λ c. times (over two q) (at w c)) w t →
+        l' ≡ reflect m n j x (at t) l → (l', times (times (over two q) x) x) ≡ column m n j l
     unfolding pushed share
     reflects wide w t l' sums scaled is =
         let shares : (c : ℕ) → j ≤ c → c < n → at t c ≡ share m j (led x (cell n l) j) (over two q) (cell n l) c = λ c a b. scaled .done c a b ∙ ap (times (over two q)) (sums .each c a b) in

@@ -1,6 +1,7 @@
 -- The matrix after a column's step, row by row. Assumes nothing.
 use mathlib.Core.Path.{_≡_, refl, sym, ap, _∙_, subst}
-use mathlib.Core.Logic.{_⊎_, ⊎-elim}
+use mathlib.Core.Bool.{and-false}
+use mathlib.Core.Logic.{⊎-elim}
 use mathlib.Core.List.{List}
 use Prim.Native.Nat.{ℕ, _+_, _*_, _≤_, _<_}
 use native.Mathlib.Nat.{eq-or-lt-of-le}
@@ -38,14 +39,7 @@ module _ (j : ℕ) (x : Float) (t : ℕ → Float) (e : Entry) where
 
   pub new-left : (i c : ℕ) → c < j → New i c ≡ e i c
   unfolding store lose
-  new-left i c h =
-      ⊎-elim
-      (λ k. let z : i ≤ j = omega arith in simp (le-ltb j i z, lt-leb j i k))
-      (λ k. ⊎-elim (λ z. simp (lt-ltb j i z, ne-eqb c j no, le-leb j i k, lt-leb j c h)) (λ z. simp (le-ltb j i z, le-leb j i k, lt-leb j c h)) (lt-or-ge j i))
-      (lt-or-ge i j)
-    where
-      no : c ≡ j → ⊥
-      no q = omega arith
+  new-left i c h = simp (ne-eqb c j (λ q. omega arith), lt-leb j c h, and-false)
 
   pub new-lead : (c : ℕ) → j ≤ c → New j c ≡ less (e j c) (times (t c) x)
   unfolding store lose
@@ -90,7 +84,8 @@ module _ (m n j : ℕ) (x : Float) (t l : List Float) (size : length l ≡ m * n
       (λ r c d h. w .rest (r * n + c) (λ c' a b q. rows-apart n r j c c' d h b q))
 
   -- the step of a row below it: v is read from column j first, and v / x stored there last
-  module _ (i : ℕ) (v : Float) (l₀ l₁ : List Float) (low : j < i) (high : i < m) (w : Turned i l₀) (lead : v ≡ cell n l₀ i j) (u : Wrote (λ c. i * n + c) (j + 1) n (λ c. less (at l₀ (i * n + c)) (times (at t c) v)) l₀ l₁) where
+  module _ (i : ℕ) (v : Float) (l₀ l₁ : List Float) (low : j < i) (high : i < m) (w : Turned i l₀) (lead : v ≡ cell n l₀ i j)
+      (u : Wrote (λ c. i * n + c) (j + 1) n (λ c. less (at l₀ (i * n + c)) (times (at t c) v)) l₀ l₁) where
     abbrev e : Entry
     e = cell n l
 
@@ -103,16 +98,16 @@ module _ (m n j : ℕ) (x : Float) (t l : List Float) (size : length l ≡ m * n
     same : (c : ℕ) → c < n → cell n l₀ i c ≡ e i c
     same c h = w .old i c (omega arith) high h
 
-    left : (c : ℕ) → c < n → c < j → cell n (set l₁ p y) i c ≡ New j x (at t) e i c
-    left c h k = getD-set-other l₁ p (i * n + c) y nan (λ q. omega arith) ∙ u .rest (i * n + c) (λ c' a b q. omega arith) ∙ same c h ∙ sym (new-left j x (at t) e i c k)
+    on-left : (c : ℕ) → c < n → c < j → cell n (set l₁ p y) i c ≡ New j x (at t) e i c
+    on-left c h k = getD-set-other l₁ p (i * n + c) y nan (λ q. omega arith) ∙ u .rest (i * n + c) (λ c' a b q. omega arith) ∙ same c h ∙ sym (new-left j x (at t) e i c k)
 
     stored : cell n (set l₁ p y) i j ≡ New j x (at t) e i j
     stored =
         let inside : p < length l₁ = omega (arith, digits-lt high wide, size, u .long, w .long) in
         getD-set-same l₁ p y nan inside ∙ ap (λ (z : Float). over z x) (lead ∙ same j wide) ∙ sym (new-stored j x (at t) e i low)
 
-    right : (c : ℕ) → c < n → j < c → cell n (set l₁ p y) i c ≡ New j x (at t) e i c
-    right c h q =
+    on-right : (c : ℕ) → c < n → j < c → cell n (set l₁ p y) i c ≡ New j x (at t) e i c
+    on-right c h q =
         getD-set-other l₁ p (i * n + c) y nan (λ z. omega arith) ∙ u .done c (omega arith) h
         ∙ ap (λ (z : Float). less z (times (at t c) v)) (same c h)
         ∙ ap (λ (z : Float). less (e i c) (times (at t c) z)) (lead ∙ same j wide)
@@ -123,8 +118,8 @@ module _ (m n j : ℕ) (x : Float) (t l : List Float) (size : length l ≡ m * n
         rw is
         (rows-more m n (New j x (at t) e) l i l₀ (set l₁ p y) w (length-set l₁ p y ∙ u .long)
         (λ c h. ⊎-elim
-        (left c h)
-        (λ k. ⊎-elim (λ q. subst (λ (z : ℕ). cell n (set l₁ p y) i z ≡ New j x (at t) e i z) q stored) (right c h) (eq-or-lt-of-le k))
+        (on-left c h)
+        (λ k. ⊎-elim (λ q. subst (λ (z : ℕ). cell n (set l₁ p y) i z ≡ New j x (at t) e i z) q stored) (on-right c h) (eq-or-lt-of-le k))
         (lt-or-ge c j))
         (λ r c d h. getD-set-other l₁ p (r * n + c) y nan (λ q. rows-apart n r i c j d h wide q) ∙ u .rest (r * n + c) (λ c' a b q. rows-apart n r i c c' d h b q)))
 

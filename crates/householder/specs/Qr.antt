@@ -1,6 +1,6 @@
 -- Householder QR, by document 01's sentences. Every sum here starts at -0.0. Assumes nothing.
 use Prim.Native.Nat.{ℕ}
-use mathlib.Core.Bool.{cond}
+use mathlib.Core.Bool.{cond, _&&_}
 use mathlib.Core.List.{List}
 use lib.Dec.{ltb, leb, eqb}
 use lib.Ieee.{Float, lt, le}
@@ -20,11 +20,11 @@ share m j v beta e c = times beta (along j m v (λ k. e k c))
 
 -- columns from j on, j included, lose (beta * w) * v(i) from row j down
 unfoldable pub lose : ℕ → (ℕ → Float) → (ℕ → Float) → Entry → Entry
-lose j v t e i c = cond (leb j i) (cond (leb j c) (less (e i c) (times (t c) (v i))) (e i c)) (e i c)
+lose j v t e i c = cond (leb j i && leb j c) (less (e i c) (times (t c) (v i))) (e i c)
 
 -- then v(i) / v0 is stored below the diagonal of column j
 unfoldable pub store : ℕ → (ℕ → Float) → Float → Entry → Entry
-store j v x e i c = cond (ltb j i) (cond (eqb c j) (over (v i) x) (e i c)) (e i c)
+store j v x e i c = cond (ltb j i && eqb c j) (over (v i) x) (e i c)
 
 -- the matrix after both, where v0 = x and column c loses by t(c)
 unfoldable pub reflect : ℕ → ℕ → ℕ → Float → (ℕ → Float) → List Float → List Float

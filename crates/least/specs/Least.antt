@@ -11,14 +11,18 @@ use Rattle.refusal.specs.Answers.{Solution, solved, refused}
 use Rattle.transpose.specs.Transpose.{qt}
 use Rattle.householder.specs.Qr.{after, betas}
 
--- then the entries above row j are updated, those before k
-unfoldable pub above : ℕ → List Float → ℕ → ℕ → List Float → List Float
-above n a j k x = loop 0 k (λ i l. set l i (less (at l i) (times (cell n a i j) (at l j)))) x
+-- entry i loses its part of column j
+abbrev pub lessened : ℕ → List Float → ℕ → ℕ → List Float → List Float
+lessened n a j i x = set x i (less (at x i) (times (cell n a i j) (at x j)))
+
+-- so do the entries above row j
+unfoldable pub above : ℕ → List Float → ℕ → List Float → List Float
+above n a j x = loop 0 j (lessened n a j) x
 
 -- column j: refuses |r(j,j)| < 1e-15, divides, then updates the entries above
 unfoldable pub back-column : ℕ → List Float → ℕ → List Float → Way (List Float)
 back-column n a j x =
-    cond (lt (absOf (cell n a j j)) 1e-15) (stopped j x) (going (above n a j j (set x j (over (at x j) (cell n a j j)))))
+    cond (lt (absOf (cell n a j j)) 1e-15) (stopped j x) (going (above n a j (set x j (over (at x j) (cell n a j j)))))
 
 -- back substitution goes from the last column
 unfoldable pub back : ℕ → List Float → List Float → Way (List Float)

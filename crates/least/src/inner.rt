@@ -16,7 +16,7 @@ use transpose::inner::apply_qt;
 // The entries above row j lose their part of column j.
 fn lessen_above(s: &mut [f64], m: usize, n: usize, j: usize)
     requires { ⌜ (Packed m n (now s)) × (j < n) ⌝ }
-    ensures { λ _. ⌜ now (s .exit) ≡ take (m * n) (now (s .entry)) ++ above n (take (m * n) (now (s .entry))) j j (drop (m * n) (now (s .entry))) ⌝ }
+    ensures { λ _. ⌜ now (s .exit) ≡ take (m * n) (now (s .entry)) ++ above n (take (m * n) (now (s .entry))) j (drop (m * n) (now (s .entry))) ⌝ }
 {
     let mn = m * n;
     for i in 0..j {

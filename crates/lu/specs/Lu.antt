@@ -12,13 +12,17 @@ use Rattle.steps.specs.Sums.{less-sum}
 use Rattle.steps.specs.Space.{swapped}
 use Rattle.float64.specs.Root.{absOf}
 
--- the pivot's row: the first of greatest magnitude from the diagonal down, replaced only by a strictly greater one, among the rows below hi
-unfoldable pub pivot-row : ℕ → List Float → ℕ → ℕ → ℕ
-pivot-row n a k hi = loop (k + 1) hi (λ i r. cond (lt (absOf (cell n a r k)) (absOf (cell n a i k))) i r) k
+-- row i in place of row r only where its magnitude in column k is strictly greater
+abbrev pub greater-row : ℕ → List Float → ℕ → ℕ → ℕ → ℕ
+greater-row n a k i r = cond (lt (absOf (cell n a r k)) (absOf (cell n a i k))) i r
+
+-- the pivot's row: the first of greatest magnitude from the diagonal down
+unfoldable pub pivot-row : ℕ → List Float → ℕ → ℕ
+pivot-row n a k = loop (k + 1) n (greater-row n a k) k
 
 -- what is said of a pivot that was found: its row and its magnitude
 pub record Pivots (n : ℕ) (a : List Float) (k row : ℕ) (size : Float) : Type 0 where
-  pub is : row ≡ pivot-row n a k n
+  pub is : row ≡ pivot-row n a k
   pub greatest : size ≡ absOf (cell n a row k)
   pub within : row < n
 
@@ -51,7 +55,7 @@ unfoldable pub lu-pivoted : ℕ → ℕ → ℕ → List Float × List Float →
 lu-pivoted n k r s = cond (lt (absOf (cell n (s .0) r k)) 1e-15) (stopped k s) (going (lu-eliminate n k (lu-swap n k r s)))
 
 unfoldable pub lu-column : ℕ → ℕ → List Float × List Float → Way (List Float × List Float)
-lu-column n k s = lu-pivoted n k (pivot-row n (s .0) k n) s
+lu-column n k s = lu-pivoted n k (pivot-row n (s .0) k) s
 
 -- the factors, column by column
 unfoldable pub lu-factor : ℕ → List Float → List Float → Way (List Float × List Float)

@@ -1,7 +1,7 @@
 -- What a solver answers inside, as the end of its loop. Assumes nothing.
 use mathlib.Core.Path.{_≡_, refl, sym}
 use Prim.Native.Nat.{ℕ, _+_, _≤_, _<_}
-use Rattle.steps.specs.Loops.{Way, going, left, way, way-goes, way-stops}
+use Rattle.steps.specs.Loops.{Way, going, final, way, way-goes, way-stops}
 use Rattle.refusal.specs.Answers.{told, ended, answered}
 use Rattle.refusal.specs.declared.Refusal.{Refusal}
 use Rattle.refusal.specs.declared.Solved.{Solved}
@@ -12,9 +12,9 @@ pub ended-told : {A : Type 0} (w : Refusal) (s : Solved) (x : A) → ended w (to
 ended-told w Done x = refl
 ended-told w (Refused c) x = refl
 
-pub left-told : {A : Type 0} (s : Solved) (x : A) → left (told s x) ≡ x
-left-told Done x = refl
-left-told (Refused c) x = refl
+pub final-told : {A : Type 0} (s : Solved) (x : A) → final (told s x) ≡ x
+final-told Done x = refl
+final-told (Refused c) x = refl
 
 -- a loop goes on after a turn that told it is done, and ends at one that told it refused
 module _ {A : Type 0} (f : ℕ → A → Way A) (lo i : ℕ) (s t u : A) (r : Solved) (up : lo ≤ i) (went : way f lo i s ≡ going t) (turn : told r u ≡ f i t) where

@@ -1,14 +1,13 @@
 -- The ways out of a solver's call, over plain values: refused by its sizes, or ended as its solve did. Assumes nothing.
 use mathlib.Core.Path.{_≡_, sym, ap, _∙_}
 use mathlib.Core.List.{List}
-use Prim.Native.Nat.{ℕ, _*_, _-_, _≤_}
-use native.Mathlib.Omega.{arith}
-use lib.ListN.{length, take, length-take}
+use Prim.Native.Nat.{ℕ, _*_}
+use lib.ListN.{length, take}
 use lib.Ieee.{Float}
 use Rattle.steps.specs.Loops.{Way}
-use Rattle.steps.specs.Space.{withPart, cleared, cleared-with}
+use Rattle.steps.specs.Space.{cleared}
 use Rattle.refusal.specs.Answers.{told, answered, Solution}
-use Rattle.refusal.specs.Told.{ended-told, left-told}
+use Rattle.refusal.specs.Told.{ended-told, final-told}
 use Rattle.refusal.specs.declared.Answer.{Answer}
 use Rattle.refusal.specs.declared.Answer.the-variants.{Done, Refused}
 use Rattle.refusal.specs.declared.Refusal.{Refusal}
@@ -25,7 +24,7 @@ module _ {why : Refusal} {solve : Way (List Float × List Float)} {a b : List Fl
 
   pub square-solved : (s : Solved) {a' b' : List Float} {r : Answer} → sizes ≡ Done → told s (a', b') ≡ solve → r ≡ answered why s → SquareCall why solve a b n a' b' r
   square-solved s {a'} {b'} e t q =
-      let both = left-told {A = List Float × List Float} s (a', b') in
+      let both = final-told {A = List Float × List Float} s (a', b') in
       record {
         sizes = sizes;
         judged = judged;
@@ -44,13 +43,9 @@ module _ {a b : List Float} {n : ℕ} {w : List Float} {sizes : Answer} (judged 
         sizes = sizes;
         judged = judged;
         answer = rw (e, ← t) (q ∙ sym (ended-told SmallPivot s b'));
-        right = rw (e, ← t) (sym (left-told s b'));
+        right = rw (e, ← t) (sym (final-told s b'));
         space = rw e k;
       }
-
--- clearing forgets what the head of a workspace became while it was lent
-pub cleared-head : (k need : ℕ) (t w : List Float) → k ≤ need → need ≤ length w → length t ≡ length (take (k - 0) w) → cleared need (withPart 0 k t w) ≡ cleared need w
-cleared-head k need t w h h' len = cleared-with 0 k need t w (omega arith) h h' (len ∙ simp length-take (omega arith))
 
 module _ (n : ℕ) {x : Solution} {o : List Float} where
   -- least squares that is refused leaves the output as it was

@@ -6,7 +6,7 @@ use Prim.Native.Nat.{ℕ, _+_, _*_}
 use lib.Dec.{ltb, eqb}
 use lib.ListN.{length}
 use lib.Ieee.{Float}
-use Rattle.steps.specs.Loops.{Way, left}
+use Rattle.steps.specs.Loops.{Way, final}
 use Rattle.steps.specs.Space.{cleared}
 use Rattle.refusal.specs.Answers.{refuse-if, if-done, and-then, ended, Solution, solved, refused}
 use Rattle.refusal.specs.declared.Answer.{Answer}
@@ -55,8 +55,8 @@ pub record SquareCall (why : Refusal) (solve : Way (List Float × List Float)) (
   pub sizes : Answer
   pub judged : sizes ≡ square-sizes n (length a) (length b)
   pub answer : r ≡ and-then sizes (ended why solve)
-  pub matrix : a' ≡ if-done sizes (left solve .0) a
-  pub right : b' ≡ if-done sizes (left solve .1) b
+  pub matrix : a' ≡ if-done sizes (final solve .0) a
+  pub right : b' ≡ if-done sizes (final solve .1) b
 
 -- `solve_spd_cholesky`: 8 leaves b unchanged, and the factor in the columns before the refused one
 abbrev pub CholeskyCall : List Float → List Float → ℕ → List Float → List Float → Answer → Type 0
@@ -71,7 +71,7 @@ pub record NormalCall (a b : List Float) (n : ℕ) (b' w w' : List Float) (r : A
   pub sizes : Answer
   pub judged : sizes ≡ normal-sizes n (length a) (length b) (length w)
   pub answer : r ≡ and-then sizes (ended SmallPivot (normal n a b))
-  pub right : b' ≡ if-done sizes (left (normal n a b)) b
+  pub right : b' ≡ if-done sizes (final (normal n a b)) b
   pub space : w' ≡ if-done sizes (cleared (n * n) w) w
 
 -- a solution as an answer, and what it leaves in the output: a refusal leaves it unchanged

@@ -35,7 +35,8 @@ module _ (a b s : List Float) (k : ℕ) (len : length a ≡ k) (is : s ≡ a ++ 
 pub glued-none : (s : List Float) (k lo : ℕ) (f : ℕ → List Float → List Float) → s ≡ take k s ++ loop lo lo f (drop k s)
 glued-none s k lo f = sym (rw (loop-none lo f (drop k s)) (take-append-drop k s))
 
-pub glued-more : (a b s : List Float) (k lo i : ℕ) (f : ℕ → List Float → Float) (v : Float) → length a ≡ k → lo ≤ i → s ≡ a ++ loop lo i (λ j l. set l j (f j l)) b → v ≡ f i (loop lo i (λ j l. set l j (f j l)) b) → set s (k + i) v ≡ a ++ loop lo (i + 1) (λ j l. set l j (f j l)) b
+pub glued-more : (a b s : List Float) (k lo i : ℕ) (f : ℕ → List Float → Float) (v : Float) → length a ≡ k → lo ≤ i →
+    s ≡ a ++ loop lo i (λ j l. set l j (f j l)) b → v ≡ f i (loop lo i (λ j l. set l j (f j l)) b) → set s (k + i) v ≡ a ++ loop lo (i + 1) (λ j l. set l j (f j l)) b
 glued-more a b s k lo i f v len h is e =
     set-back a _ s k len is i v
     ∙ ap (λ (z : List Float). a ++ z) (loop-more lo i (λ j l. set l j (f j l)) b h refl (ap (λ (z : Float). set (loop lo i (λ j l. set l j (f j l)) b) i z) e))

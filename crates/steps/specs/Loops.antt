@@ -92,9 +92,9 @@ pub data Way (S : Type 0) : Type 0 where
   stopped : ℕ → S → Way S
 
 -- what stands at the end, either way
-abbrev pub left : {S : Type 0} → Way S → S
-left (going s) = s
-left (stopped c s) = s
+abbrev pub final : {S : Type 0} → Way S → S
+final (going s) = s
+final (stopped c s) = s
 
 -- a turn: where it is still going, f says how it goes on
 abbrev pub onward : {S : Type 0} → (ℕ → S → Way S) → ℕ → Way S → Way S
@@ -136,15 +136,15 @@ module _ {S : Type 0} (f : ℕ → S → Way S) where
   way-down-stops i c s t h e = down-more (onward f) i (going s) h ∙ rw e (down-fixed (onward f) (i - 1) (stopped c t) (λ k. refl))
 
   -- what each turn keeps, both keep, stopped or not
-  module _ (P : S → Type 0) (k : (i : ℕ) (t : S) → P t → P (left (f i t))) where
-    onward-keeps : (i : ℕ) (w : Way S) → P (left w) → P (left (onward f i w))
+  module _ (P : S → Type 0) (k : (i : ℕ) (t : S) → P t → P (final (f i t))) where
+    onward-keeps : (i : ℕ) (w : Way S) → P (final w) → P (final (onward f i w))
     onward-keeps i (going s) p = k i s p
     onward-keeps i (stopped c s) p = p
 
-    pub way-keeps : (lo hi : ℕ) (s : S) → P s → P (left (way lo hi s))
+    pub way-keeps : (lo hi : ℕ) (s : S) → P s → P (final (way lo hi s))
     unfolding way
-    way-keeps lo hi s p = loop-keeps (λ w. P (left w)) lo hi (onward f) (going s) onward-keeps p
+    way-keeps lo hi s p = loop-keeps (λ w. P (final w)) lo hi (onward f) (going s) onward-keeps p
 
-    pub way-down-keeps : (n : ℕ) (s : S) → P s → P (left (way-down n s))
+    pub way-down-keeps : (n : ℕ) (s : S) → P s → P (final (way-down n s))
     unfolding way-down
-    way-down-keeps n s p = down-keeps (λ w. P (left w)) n (onward f) (going s) onward-keeps p
+    way-down-keeps n s p = down-keeps (λ w. P (final w)) n (onward f) (going s) onward-keeps p

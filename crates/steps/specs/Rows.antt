@@ -21,11 +21,15 @@ pub record Rows (m n : ℕ) (f : Entry) (l : List Float) (i : ℕ) (l' : List Fl
 pub rows-none : (m n : ℕ) (f : Entry) (l : List Float) → Rows m n f l 0 l
 rows-none m n f l = record { long = refl; new = λ r c h g. absurd (omega arith); old = λ r c h h' g. refl }
 
-pub rows-more : (m n : ℕ) (f : Entry) (l : List Float) (i : ℕ) (l' l'' : List Float) → Rows m n f l i l' → length l'' ≡ length l' → ((c : ℕ) → c < n → cell n l'' i c ≡ f i c) → ((r c : ℕ) → (r < i) ⊎ (i < r) → c < n → cell n l'' r c ≡ cell n l' r c) → Rows m n f l (i + 1) l''
+pub rows-more : (m n : ℕ) (f : Entry) (l : List Float) (i : ℕ) (l' l'' : List Float) → Rows m n f l i l' → length l'' ≡ length l' →
+    ((c : ℕ) → c < n → cell n l'' i c ≡ f i c) → ((r c : ℕ) → (r < i) ⊎ (i < r) → c < n → cell n l'' r c ≡ cell n l' r c) → Rows m n f l (i + 1) l''
 rows-more m n f l i l' l'' w len row others =
     record {
       long = len ∙ w .long;
-      new = λ r c h g. ⊎-elim (λ q. subst (λ (k : ℕ). cell n l'' k c ≡ f k c) (sym q) (row c g)) (λ k. others r c (inl k) g ∙ w .new r c k g) (eq-or-lt-of-le (let z : r ≤ i = omega arith in z));
+      new = λ r c h g. ⊎-elim
+          (λ q. subst (λ (k : ℕ). cell n l'' k c ≡ f k c) (sym q) (row c g))
+          (λ k. others r c (inl k) g ∙ w .new r c k g)
+          (eq-or-lt-of-le (let z : r ≤ i = omega arith in z));
       old = λ r c h h' g. others r c (inr (let z : i < r = omega arith in z)) g ∙ w .old r c (omega arith) h' g;
     }
 

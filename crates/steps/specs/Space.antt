@@ -90,6 +90,10 @@ cleared-same k s t h = ap (λ (l : List Float). replicate k +zero ++ l) h
 pub cleared-with : (a e k : ℕ) (t s : List Float) → a ≤ e → e ≤ k → k ≤ length s → length t ≡ e - a → cleared k (withPart a e t s) ≡ cleared k s
 cleared-with a e k t s h hk h' len = cleared-same k _ s (drop-with a e t s h (omega arith) len k hk)
 
+-- so of a workspace whose head was lent
+pub cleared-head : (k need : ℕ) (t w : List Float) → k ≤ need → need ≤ length w → length t ≡ length (take (k - 0) w) → cleared need (withPart 0 k t w) ≡ cleared need w
+cleared-head k need t w h h' len = cleared-with 0 k need t w (omega arith) h h' (len ∙ simp length-take (omega arith))
+
 -- what stands before a part and past it is as it was
 pub get-before : (a e : ℕ) (t s : List Float) (k : ℕ) → k < a → a ≤ length s → at (withPart a e t s) k ≡ at s k
 unfolding withPart

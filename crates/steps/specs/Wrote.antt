@@ -30,7 +30,8 @@ wrote-none p lo g d = record { long = refl; done = λ c h h'. absurd (omega arit
 pub wrote-now : (p : ℕ → ℕ) (lo i : ℕ) (g : ℕ → Float) (d d' : List Float) → Apart p lo i → Wrote p lo i g d d' → at d' (p i) ≡ at d (p i)
 wrote-now p lo i g d d' ne w = w .rest (p i) ne
 
-pub wrote-more : (p : ℕ → ℕ) (lo i : ℕ) (g : ℕ → Float) (d d' : List Float) (x : Float) → lo ≤ i → p i < length d → Apart p lo i → Wrote p lo i g d d' → x ≡ g i → Wrote p lo (i + 1) g d (set d' (p i) x)
+pub wrote-more : (p : ℕ → ℕ) (lo i : ℕ) (g : ℕ → Float) (d d' : List Float) (x : Float) → lo ≤ i → p i < length d → Apart p lo i → Wrote p lo i g d d' → x ≡ g i →
+    Wrote p lo (i + 1) g d (set d' (p i) x)
 wrote-more p lo i g d d' x l b ne w e =
     record {
       long = length-set d' (p i) x ∙ w .long;
@@ -42,7 +43,8 @@ wrote-more p lo i g d d' x l b ne w e =
     }
 
 -- a turn that changes what stands at its place
-pub wrote-turn : (p : ℕ → ℕ) (f : ℕ → Float → Float) (lo i : ℕ) (d d' : List Float) → lo ≤ i → p i < length d → Apart p lo i → Wrote p lo i (λ c. f c (at d (p c))) d d' → Wrote p lo (i + 1) (λ c. f c (at d (p c))) d (set d' (p i) (f i (at d' (p i))))
+pub wrote-turn : (p : ℕ → ℕ) (f : ℕ → Float → Float) (lo i : ℕ) (d d' : List Float) → lo ≤ i → p i < length d → Apart p lo i →
+    Wrote p lo i (λ c. f c (at d (p c))) d d' → Wrote p lo (i + 1) (λ c. f c (at d (p c))) d (set d' (p i) (f i (at d' (p i))))
 wrote-turn p f lo i d d' l b ne w = wrote-more p lo i (λ c. f c (at d (p c))) d d' _ l b ne w (ap (f i) (wrote-now p lo i _ d d' ne w))
 
 pub wrote-end : (p : ℕ → ℕ) (lo i hi : ℕ) (g : ℕ → Float) (d d' : List Float) → Wrote p lo i g d d' → i ≤ hi → hi ≤ i → Wrote p lo hi g d d'

@@ -22,7 +22,8 @@ same-cell n i j i' j' h h' e =
 pub diagonal-apart : (k p : ℕ) → p < k → Apart (λ c. c * k + c) 0 p
 diagonal-apart k p h c l l' e = let q = same-cell k p p c c h (omega arith) e in omega arith
 
-pub damped-diagonal : (lambda : Float) (k : ℕ) (d d' : List Float) → length d ≡ k * k → Wrote (λ c. c * k + c) 0 k (λ c. plus (at d (c * k + c)) lambda) d d' → d' ≡ jtj-matrix (ridge lambda) k (cell k d)
+pub damped-diagonal : (lambda : Float) (k : ℕ) (d d' : List Float) → length d ≡ k * k →
+    Wrote (λ c. c * k + c) 0 k (λ c. plus (at d (c * k + c)) lambda) d d' → d' ≡ jtj-matrix (ridge lambda) k (cell k d)
 unfolding jtj-matrix damped ridge
 damped-diagonal lambda k d d' len w =
     is-table k k (damped (ridge lambda) (cell k d)) d' nan (w .long ∙ len) (λ i j hi hj.

@@ -2,7 +2,7 @@
 use mathlib.Core.Path.{_≡_, refl, sym, ap, _∙_}
 use mathlib.Core.Logic.{_⊎_, inl, inr}
 use mathlib.Core.Bool.{Bool, true, false}
-use Prim.Native.Nat.{ℕ, zero, suc, _+_, _*_, _^_, _≤_, _<_}
+use Prim.Native.Nat.{ℕ, zero, suc, _+_, _*_, _^_, _<_}
 use native.Mathlib.Omega.{arith}
 use lib.Dec.{T}
 use Rattle.support.specs.Word.{has, bit, count, word, Strict}
@@ -23,10 +23,6 @@ within f g (suc n) h = next (f n) (g n) (h n (omega arith)) (within f g n (λ j 
     next false true k (inr e) = inl (omega arith)
     next false false k (inl l) = inl (omega arith)
     next false false k (inr e) = inr (omega arith, ap (λ (w : ℕ). 0 * 2 ^ n + w) (e .1))
-
--- a subset counts no more
-pub count-sub : (f g : ℕ → Bool) (n : ℕ) → ((j : ℕ) → j < n → T (f j) → T (g j)) → count f n ≤ count g n
-count-sub f g n h = elim (within f g n h) [ inl l ↦ omega arith | inr e ↦ omega (arith, e .0) ]
 
 -- a strict subset counts fewer
 pub strict-count : (n w v : ℕ) → w < 2 ^ n → v < 2 ^ n → Strict w v → count (has w) n < count (has v) n

@@ -35,10 +35,6 @@ unfolding word
 word-lt f zero = omega arith
 word-lt f (suc n) = rw pow-suc (word-next (f n) (2 ^ n) (word f n) (word-lt f n))
 
--- a word of at most 64 columns fits a support
-pub word-fits : (f : ℕ → Bool) (n : ℕ) → n ≤ 64 → word f n < 2 ^ 64
-word-fits f n h = lt-of-lt-of-le (word-lt f n) (pow-mono h)
-
 bit-is : (b : Bool) → eqb (bit b % 2) 1 ≡ b
 bit-is true = refl
 bit-is false = refl

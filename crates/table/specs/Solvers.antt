@@ -23,7 +23,7 @@ use Rattle.least.specs.Least as M
 unfoldable pub opened : Unit {0}
 unfolding ofBits add sub neg mul div lt le eq round size sum isNan
     L.turns L.loop L.down-from L.way L.way-down S.sum S.less-sum T.tab T.table P.swapped
-    R.isqrt R.count R.nearestRoot R.rootOf R.absOf R.greaterOf
+    R.isqrt R.units R.nearestRoot R.rootOf R.absOf R.greaterOf
     D.led D.along Q.sign Q.share Q.lose Q.store Q.reflect Q.pushed Q.normed Q.column Q.after Q.beta Q.betas X.turn X.qt
     C.scale C.reduced C.chol-below C.chol-store C.chol-column C.chol-factor C.chol-forward C.chol-back C.chol-end C.cholesky
     U.pivot-row U.swap-rows U.lu-swap U.less-row U.lu-row U.eliminated U.lu-eliminate U.lu-pivoted U.lu-column U.lu-factor U.lu-forward U.lu-back U.lu-end U.lu
@@ -59,16 +59,19 @@ C2-below = refl
 
 -- L2: the second pivot of a 3 by 3 matrix swaps its whole row, the first factor with it
 pub L2 : U.lu 3 (two ∷ one ∷ one ∷ one ∷ lit 0x3fe0000000000000 ∷ two ∷ -one ∷ three ∷ one ∷ []) (one ∷ two ∷ four ∷ [])
-    ≡ going ((two ∷ one ∷ one ∷ lit 0xbfe0000000000000 ∷ lit 0x400c000000000000 ∷ lit 0x3ff8000000000000 ∷ lit 0x3fe0000000000000 ∷ +zero ∷ lit 0x3ff8000000000000 ∷ []), (lit 0xbfdb6db6db6db6db ∷ lit 0x3feb6db6db6db6db ∷ one ∷ []))
+    ≡ going (
+      (two ∷ one ∷ one ∷ lit 0xbfe0000000000000 ∷ lit 0x400c000000000000 ∷ lit 0x3ff8000000000000 ∷ lit 0x3fe0000000000000 ∷ +zero ∷ lit 0x3ff8000000000000 ∷ []),
+      (lit 0xbfdb6db6db6db6db ∷ lit 0x3feb6db6db6db6db ∷ one ∷ []),
+    )
 unfolding opened
 L2 = refl
 
 -- L3: a NaN on the diagonal stays the pivot, one below it is passed over
-pub L3 : U.pivot-row 2 (nan ∷ one ∷ two ∷ one ∷ []) 0 2 ≡ 0
+pub L3 : U.pivot-row 2 (nan ∷ one ∷ two ∷ one ∷ []) 0 ≡ 0
 unfolding opened
 L3 = refl
 
-pub L3-below : U.pivot-row 2 (one ∷ one ∷ nan ∷ one ∷ []) 0 2 ≡ 0
+pub L3-below : U.pivot-row 2 (one ∷ one ∷ nan ∷ one ∷ []) 0 ≡ 0
 unfolding opened
 L3-below = refl
 

@@ -35,8 +35,8 @@ returns-2 : tie.Need-returns-2
 returns-2 c =
     let made = c .before .before .before .before .before .before in
     let accepted = made .before .before .before .before in
-    let left = made .qr-ready .ensures in
-    record { answer = sym (accepted .enum-told .given .1) ∙ accepted .before .before .qr-sizes .ensures; factor = left .0; scales = left .1; space = left .2 }
+    let made-so = made .qr-ready .ensures in
+    record { answer = sym (accepted .enum-told .given .1) ∙ accepted .before .before .qr-sizes .ensures; factor = made-so .0; scales = made-so .1; space = made-so .2 }
 
 pub qr-spec : {M : Type 1} → statement M
 qr-spec =

@@ -5,9 +5,8 @@ use native.Mathlib.Omega.{arith}
 use lib.ListN.{length}
 use denote.Ref.{now}
 use borrow.Author.Needs.{needs}
-use Rattle.steps.specs.Space.{withPart}
+use Rattle.steps.specs.Space.{withPart, cleared-head}
 use Rattle.solve.specs.Calls.{least-need}
-use Rattle.solve.proofs.Ends.{cleared-head}
 use Rattle.solve.proofs.least_ready.Statement.{statement}
 use Rattle.solve.proofs.least_ready.Tie as tie
 
@@ -48,7 +47,8 @@ returns c =
     let space = now (args .workspace) in
     let cells = start .pre .0 .cells in
     let at-clear = c .before .before in
-    let head = cleared-head (length (now (args .a)) + args .m) (args .m * args .n + 2 * args .m + 2 * args .n) (solve .least-into .last .1 .1 .1 .1 .1 .0) space (omega arith) (start .pre .1) (solve .least-into .kept .1 .1 .1 .1 .1 .0) in
+    let head = cleared-head (length (now (args .a)) + args .m) (args .m * args .n + 2 * args .m + 2 * args .n) (solve .least-into .last .1 .1 .1 .1 .1 .0) space
+    (omega arith) (start .pre .1) (solve .least-into .kept .1 .1 .1 .1 .1 .0) in
     (solve .least-into .ensures, at-clear .clear .ensures ∙ rw (at-clear .before .least-need .ensures) head)
 
 pub least-ready-spec : {M : Type 1} → statement M

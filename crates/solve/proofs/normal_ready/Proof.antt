@@ -5,8 +5,7 @@ use native.Mathlib.Omega.{arith}
 use lib.ListN.{length}
 use denote.Ref.{now}
 use borrow.Author.Needs.{needs}
-use Rattle.steps.specs.Space.{withPart, cleared}
-use Rattle.solve.proofs.Ends.{cleared-head}
+use Rattle.steps.specs.Space.{withPart, cleared, cleared-head}
 use Rattle.solve.proofs.normal_ready.Statement.{statement}
 use Rattle.solve.proofs.normal_ready.Tie as tie
 

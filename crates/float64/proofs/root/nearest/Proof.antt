@@ -69,4 +69,5 @@ returns-4 c = λ r.
 pub nearest-spec : {M : Type 1} → statement M
 nearest-spec =
     tie.close
-    (tie.spec mul-wrapping-sub-u64 mul-wrapping-sub-u64-2 wrapping-sub-u64-requires returns mul-wrapping-sub-u64-3 add-wrapping-sub-u64 mul-wrapping-sub-u64-4 wrapping-sub-u64-requires-2 returns-2 mul-e mul-low add-low add-if3 returns-3 add-result returns-4)
+    (tie.spec mul-wrapping-sub-u64 mul-wrapping-sub-u64-2 wrapping-sub-u64-requires returns mul-wrapping-sub-u64-3 add-wrapping-sub-u64
+    mul-wrapping-sub-u64-4 wrapping-sub-u64-requires-2 returns-2 mul-e mul-low add-low add-if3 returns-3 add-result returns-4)

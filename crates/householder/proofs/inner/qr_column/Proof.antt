@@ -49,7 +49,8 @@ slice-aggregate-column-sums c = search needs
 
 column-sums-requires : tie.Need-column-sums-requires
 column-sums-requires c κs =
-    let start = c .before .before .before .before .before .before .before .before .before .before .before .before .before in
+    let rooted = c .before .before .before .before .before .before .before in
+    let start = rooted .before .before .before .before .before .before in
     (start .pre, start .pre .cols, sums-none (start .args .n) (start .args .j) _ (now (start .args .a)) (start .pre .cols))
 
 slice-aggregate-scale : tie.Need-slice-aggregate-scale

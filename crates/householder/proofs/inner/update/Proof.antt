@@ -21,13 +21,16 @@ Inv-loop a₀ m n j x t i₀ a i =
 abbrev μ-loop : tie.MeasureT-loop
 μ-loop a₀ m n j x t i₀ a i = m - i
 
--- row i ends within the matrix
-inside : (c : tie.In-loop Inv-loop μ-loop) → let args = c .before .before .before .before .before .before .before .before .args in c .before .loop .i * args .n + args .n ≤ length (c .before .loop .a)
-inside c =
-    let at-loop = c .before in
-    let at-less-row = at-loop .before .before .before in
-    let start = at-less-row .before .before .before .before in
-    omega (arith, row-fits _ (start .args .n) _ (c .loop-test .taken), start .pre .0 .size, at-less-row .less-row .kept .0, at-loop .loop .inv .2)
+-- in a turn
+module _ (c : tie.In-loop Inv-loop μ-loop) where
+  abbrev begun : tie.Start Inv-loop μ-loop
+  begun = c .before .before .before .before .before .before .before .before
+
+  -- row i ends within the matrix
+  inside : c .before .loop .i * begun .args .n + begun .args .n ≤ length (c .before .loop .a)
+  inside =
+      let at-loop = c .before in
+      omega (arith, row-fits _ (begun .args .n) _ (c .loop-test .taken), begun .pre .0 .size, at-loop .before .before .before .less-row .kept .0, at-loop .loop .inv .2)
 
 mul-less-row : tie.Need-mul-less-row Inv-loop μ-loop
 mul-less-row c = let start = c .before .before .before in omega (arith, start .pre .0, row-fits _ (start .args .n) _ (start .pre .0 .tall))
@@ -44,30 +47,29 @@ loop-holds c = (omega arith, omega (arith, c .before .before .before .before .be
 cell-requires : tie.Need-cell-requires Inv-loop μ-loop
 cell-requires c κs =
     let test = c .before in
-    omega (arith, inside test, test .before .before .before .before .before .before .before .before .pre .0)
+    omega (arith, inside test, begun test .pre .0)
 
 mul-less-row-2 : tie.Need-mul-less-row-2 Inv-loop μ-loop
 mul-less-row-2 c = omega (arith, inside (c .before .before .before))
 
 add-less-row : tie.Need-add-less-row Inv-loop μ-loop
-add-less-row c = omega (arith, c .before .before .before .before .before .before .before .before .before .before .before .pre .0)
+add-less-row c = omega (arith, begun (c .before .before .before) .pre .0)
 
 less-row-requires-2 : tie.Need-less-row-requires-2 Inv-loop μ-loop
 less-row-requires-2 c κs =
     let test = c .before .before .before in
-    let start = test .before .before .before .before .before .before .before .before in
-    (omega (arith, start .pre .0), start .pre .1, inside test)
+    (omega (arith, begun test .pre .0), begun test .pre .1, inside test)
 
 put-requires : tie.Need-put-requires Inv-loop μ-loop
 put-requires c κs =
     let at-less-row2 = c .before .before .before in
     let test = at-less-row2 .before .before .before .before in
-    omega (arith, inside test, test .before .before .before .before .before .before .before .before .pre .0, at-less-row2 .less-row2 .kept .0)
+    omega (arith, inside test, begun test .pre .0, at-less-row2 .less-row2 .kept .0)
 
 add-i-2 : tie.Need-add-i-2 Inv-loop μ-loop
 add-i-2 c =
     let test = c .before .before .before .before .before .before .before .before .before .before in
-    omega (arith, test, test .before .before .before .before .before .before .before .before .pre .0)
+    omega (arith, test, begun test .pre .0)
 
 loop-less : tie.Need-loop-less Inv-loop μ-loop
 loop-less c = omega (arith, c .before .before .before .before .before .before .before .before .before .before)
@@ -79,15 +81,15 @@ loop-again c =
     let at-cell = at-less-row2 .before .before in
     let test = at-cell .before .before in
     let turn = test .before .loop in
-    let start = test .before .before .before .before .before .before .before .before in
+    let start = begun test in
     let args = start .args in
     let row = at-less-row2 .less-row2 in
     let stored = at-put .put in (
       omega (arith, turn),
       omega (arith, test),
       stored .kept .0 ∙ row .kept .0 ∙ turn .inv .2,
-      λ l size rows. turned-row (args .m) (args .n) (args .j) (args .x) (now (args .t)) l size (start .pre .0 .wide) (turn .i) _ (turn .a) (row .last .0) (omega (arith, turn)) (test .loop-test .taken) (turn .inv .3 l size rows)
-          (at-cell .cell .ensures) (row .ensures) _ (stored .ensures),
+      λ l size rows. turned-row (args .m) (args .n) (args .j) (args .x) (now (args .t)) l size (start .pre .0 .wide)
+          (turn .i) _ (turn .a) (row .last .0) (omega (arith, turn)) (test .loop-test .taken) (turn .inv .3 l size rows) (at-cell .cell .ensures) (row .ensures) _ (stored .ensures),
     )
 
 same-length : tie.Need-same-length Inv-loop μ-loop

@@ -52,7 +52,8 @@ module _ (c : tie.In-loop Inv-loop μ-loop) where
   diagonal = sym (getD-take (rows * cols) (c .before .loop .s) _ nan inside) ∙ ap (λ (z : List Float). cell cols z column column) (c .before .loop .inv .2)
 
 -- what the test says of it
-tested : (c : tie.After-abs Inv-loop μ-loop) {b : Bool} → lt (c .abs .result) 1e-15 ≡ b → let test = c .before .before .before in lt (absOf (cell (cols test) (matrix test) (column test) (column test))) 1e-15 ≡ b
+tested : (c : tie.After-abs Inv-loop μ-loop) {b : Bool} → lt (c .abs .result) 1e-15 ≡ b → let test = c .before .before .before in
+    lt (absOf (cell (cols test) (matrix test) (column test) (column test))) 1e-15 ≡ b
 tested c q = rw (c .abs .ensures, c .before .cell .ensures, diagonal (c .before .before .before)) at q
 
 mul-mn : tie.Need-mul-mn Inv-loop μ-loop

@@ -56,7 +56,8 @@ returns c =
     let start = first .before .before .before .before .before in
     let args = start .args in
     solved .least-packed .ensures
-    ∙ loaded (args .m) (args .n) (args .m * args .n) (now (args .s)) (first .copy .last .1 .0) (second .last .1 .0) (now (args .a)) (now (args .b)) (start .pre .0 .size) (start .pre .1) (start .pre .2) (first .copy .ensures) (second .ensures)
+    ∙ loaded (args .m) (args .n) (args .m * args .n) (now (args .s)) (first .copy .last .1 .0) (second .last .1 .0) (now (args .a)) (now (args .b))
+    (start .pre .0 .size) (start .pre .1) (start .pre .2) (first .copy .ensures) (second .ensures)
 
 pub least-of-spec : {M : Type 1} → statement M
 least-of-spec =

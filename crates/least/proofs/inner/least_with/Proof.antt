@@ -48,7 +48,8 @@ returns c =
     let s = now (start .args .s) in
     let made = factored .factor in
     let len : length (made .last .0) ≡ k = made .kept .0 ∙ length-take-le (k - 0) s (omega (arith, start .pre .0)) ∙ sub-zero k in
-    least-is (start .args .m) (start .args .n) k s (made .last .0) (made .last .1 .0) (turned .apply-qt .last .0) _ len (made .ensures .0) (made .ensures .1) (turned .apply-qt .ensures) (substituted .back-substitute .ensures)
+    least-is (start .args .m) (start .args .n) k s (made .last .0) (made .last .1 .0) (turned .apply-qt .last .0) _ len
+    (made .ensures .0) (made .ensures .1) (turned .apply-qt .ensures) (substituted .back-substitute .ensures)
 
 pub least-with-spec : {M : Type 1} → statement M
 least-with-spec =

@@ -8,13 +8,14 @@ use lib.Seq.{length-take-le}
 use lib.Arith.{digits-lt}
 use denote.Ref.{now}
 use Rattle.steps.specs.Num.{less, times, at, cell}
+use Rattle.steps.specs.Loops.{loop}
 use Rattle.steps.specs.Glue.{at-back, at-front, glued-none, glued-more}
-use Rattle.least.specs.Least.{above}
+use Rattle.least.specs.Least.{lessened, above}
 use Rattle.least.proofs.inner.lessen_above.Statement.{statement}
 use Rattle.least.proofs.inner.lessen_above.Tie as tie
 
 abbrev Inv-loop : tie.InvT-loop
-Inv-loop s₀ m n j mn i₀ s i = (i ≤ j) × (length s ≡ length s₀) × (s ≡ take (m * n) s₀ ++ above n (take (m * n) s₀) j i (drop (m * n) s₀))
+Inv-loop s₀ m n j mn i₀ s i = (i ≤ j) × (length s ≡ length s₀) × (s ≡ take (m * n) s₀ ++ loop 0 i (lessened n (take (m * n) s₀) j) (drop (m * n) s₀))
 
 abbrev μ-loop : tie.MeasureT-loop
 μ-loop s₀ m n j mn i₀ s i = j - i
@@ -30,7 +31,6 @@ mul-mn : tie.Need-mul-mn Inv-loop μ-loop
 mul-mn c = omega (arith, c .before .pre .0)
 
 loop-holds : tie.Need-loop-holds Inv-loop μ-loop
-unfolding above
 loop-holds c = let args = c .before .args in (omega arith, refl, glued-none (now (args .s)) (args .m * args .n) _ _)
 
 cell-requires : tie.Need-cell-requires Inv-loop μ-loop
@@ -70,7 +70,6 @@ loop-less : tie.Need-loop-less Inv-loop μ-loop
 loop-less c = omega arith
 
 loop-again : tie.Need-loop-again Inv-loop μ-loop
-unfolding above
 loop-again c =
     let test = c .before .before .before .before in
     let turn = test .before .loop in
@@ -83,13 +82,19 @@ loop-again c =
       omega arith,
       simp length-set (turn .inv .1),
       glued-more a (drop k (now (args .s))) (turn .s) k 0 (turn .i) (λ i x. less (at x i) (times (cell (args .n) a i (args .j)) (at x (args .j)))) _ len (omega arith) is
-          (rw (c .before .before .cell .ensures, at-back a _ (turn .s) k len is (turn .i), at-front a _ (turn .s) k len is (turn .i * args .n + args .j) (inside test), at-back a _ (turn .s) k len is (args .j))),
+          (rw (
+            c .before .before .cell .ensures,
+            at-back a _ (turn .s) k len is (turn .i),
+            at-front a _ (turn .s) k len is (turn .i * args .n + args .j) (inside test),
+            at-back a _ (turn .s) k len is (args .j),
+          )),
     )
 
 same-length : tie.Need-same-length Inv-loop μ-loop
 same-length c = c .before .loop .inv .1
 
 returns : tie.Need-returns Inv-loop μ-loop
+unfolding above
 returns c =
     let end = c .before .loop in
     let all : end .i ≡ c .before .before .before .args .j = omega arith in

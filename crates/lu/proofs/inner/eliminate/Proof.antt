@@ -17,7 +17,7 @@ abbrev μ-loop : tie.MeasureT-loop
 μ-loop a₀ n k pivot i₀ a i = n - i
 
 -- row i's entry in column k stands within the matrix
-entry : (c : tie.In-loop Inv-loop μ-loop) → let n = c .before .before .before .before .before .args .n in c .before .loop .i * n + c .before .before .before .before .before .args .k < length (c .before .loop .a)
+entry : (c : tie.In-loop Inv-loop μ-loop) → let args = c .before .before .before .before .before .args in c .before .loop .i * args .n + args .k < length (c .before .loop .a)
 entry c = rw (c .before .loop .inv .2) (digits-lt (c .loop-test .taken) (c .before .before .before .before .before .pre .1))
 
 cell-requires : tie.Need-cell-requires Inv-loop μ-loop

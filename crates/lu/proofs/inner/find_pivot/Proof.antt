@@ -6,14 +6,14 @@ use native.Mathlib.Omega.{arith}
 use lib.Arith.{digits-lt}
 use borrow.Author.Needs.{needs}
 use Rattle.steps.specs.Num.{cell}
-use Rattle.steps.specs.Loops.{loop-none, loop-more, loop-end}
+use Rattle.steps.specs.Loops.{loop, loop-none, loop-more, loop-end}
 use Rattle.float64.specs.Root.{absOf}
-use Rattle.lu.specs.Lu.{pivot-row}
+use Rattle.lu.specs.Lu.{greater-row, pivot-row}
 use Rattle.lu.proofs.inner.find_pivot.Statement.{statement}
 use Rattle.lu.proofs.inner.find_pivot.Tie as tie
 
 abbrev Inv-loop : tie.InvT-loop
-Inv-loop a n k size₀ row₀ i₀ size row i = (k + 1 ≤ i) × (i ≤ n) × (row < n) × (row ≡ pivot-row n a k i) × (size ≡ absOf (cell n a row k))
+Inv-loop a n k size₀ row₀ i₀ size row i = (k + 1 ≤ i) × (i ≤ n) × (row < n) × (row ≡ loop (k + 1) i (greater-row n a k) k) × (size ≡ absOf (cell n a row k))
 
 abbrev μ-loop : tie.MeasureT-loop
 μ-loop a n k size₀ row₀ i₀ size row i = n - i
@@ -28,7 +28,6 @@ add-i : tie.Need-add-i Inv-loop μ-loop
 add-i c = omega arith
 
 loop-holds : tie.Need-loop-holds Inv-loop μ-loop
-unfolding pivot-row
 loop-holds c = (omega arith, omega arith, omega arith, sym (loop-none _ _ _), rw (c .abs .ensures, c .before .cell .ensures))
 
 cell-requires-2 : tie.Need-cell-requires-2 Inv-loop μ-loop
@@ -44,7 +43,6 @@ loop-less : tie.Need-loop-less Inv-loop μ-loop
 loop-less c = omega arith
 
 loop-again : tie.Need-loop-again Inv-loop μ-loop
-unfolding pivot-row
 loop-again c =
     let turn = c .before .before .before .before .loop in
     let v = rw (c .before .before .cell2 .ensures) at (c .before .abs2 .ensures) in

@@ -16,7 +16,8 @@ column-stops : (n k row : ℕ) (size : Float) (a b : List Float) → Pivots n a 
 unfolding lu-column lu-pivoted
 column-stops n k row size a b p small = rw (← p .is, ← p .greatest, small)
 
-column-goes : (n k row : ℕ) (size : Float) (a b a' b' a'' : List Float) → Pivots n a k row size → lt size 1e-15 ≡ false → (a', b') ≡ lu-swap n k row (a, b) → a'' ≡ eliminated n k a' → lu-column n k (a, b) ≡ going (a'', b')
+column-goes : (n k row : ℕ) (size : Float) (a b a' b' a'' : List Float) → Pivots n a k row size → lt size 1e-15 ≡ false →
+    (a', b') ≡ lu-swap n k row (a, b) → a'' ≡ eliminated n k a' → lu-column n k (a, b) ≡ going (a'', b')
 unfolding lu-column lu-pivoted lu-eliminate
 column-goes n k row size a b a' b' a'' p large s e = rw (← p .is, ← p .greatest, large, ← s, e)
 

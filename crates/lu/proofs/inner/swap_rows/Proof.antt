@@ -17,7 +17,8 @@ abbrev μ-loop : tie.MeasureT-loop
 μ-loop a₀ n k r j₀ a j = n - j
 
 -- both places stand within the matrix
-cells : (c : tie.In-loop Inv-loop μ-loop) → let start = c .before .before .before in let j = c .before .loop .j in (start .args .k * start .args .n + j < start .args .n * start .args .n) × (start .args .r * start .args .n + j < start .args .n * start .args .n)
+cells : (c : tie.In-loop Inv-loop μ-loop) → let args = c .before .before .before .args in let j = c .before .loop .j in
+    (args .k * args .n + j < args .n * args .n) × (args .r * args .n + j < args .n * args .n)
 cells c = let start = c .before .before .before in (digits-lt (start .pre .1) (c .loop-test .taken), digits-lt (start .pre .2) (c .loop-test .taken))
 
 loop-holds : tie.Need-loop-holds Inv-loop μ-loop

@@ -19,7 +19,8 @@ copied e s t h is =
     rw is (part-with e (e + e) (part 0 (0 + e) s) s (omega arith) h (simp (length-take, length-drop) (omega arith)) ∙ rw z)
 
 -- a solve that worked in the copy leaves them as they were, so a fresh copy is the same
-copied-again : (e : ℕ) (s t u v : List Float) → e + e ≤ length s → length t ≡ length s → length u ≡ length (part e (e + e) t) → t ≡ withPart e (e + e) (part 0 (0 + e) s) s → v ≡ withPart e (e + e) (part 0 (0 + e) (withPart e (e + e) u t)) (withPart e (e + e) u t) → part e (e + e) v ≡ take e s
+copied-again : (e : ℕ) (s t u v : List Float) → e + e ≤ length s → length t ≡ length s → length u ≡ length (part e (e + e) t) → t ≡ withPart e (e + e) (part 0 (0 + e) s) s →
+    let w = withPart e (e + e) u t in v ≡ withPart e (e + e) (part 0 (0 + e) w) w → part e (e + e) v ≡ take e s
 copied-again e s t u v h ht hu is again =
     let len : length u ≡ e + e - e = hu ∙ simp (length-take, length-drop) (omega arith) in
     let wide : length (withPart e (e + e) u t) ≡ length t = length-with e (e + e) u t (omega arith) (omega arith) len in
@@ -93,7 +94,8 @@ returns c =
     let t = copy .copy-within .last .0 in
     let u = cholesky .cholesky .last .0 in
     let first = copied e s t (omega arith) (copy .copy-within .ensures) in
-    let second = copied-again e s t u (again .copy-within2 .last .0) (omega arith) (copy .copy-within .kept .0) (cholesky .cholesky .kept .0) (copy .copy-within .ensures) (again .copy-within2 .ensures) in
+    let second = copied-again e s t u (again .copy-within2 .last .0) (omega arith) (copy .copy-within .kept .0)
+    (cholesky .cholesky .kept .0) (copy .copy-within .ensures) (again .copy-within2 .ensures) in
     normal-by-lu _ _ _ _ (lu .lu .result) _ _ _ (lu .lu .last .0) (lu .lu .last .1 .0)
     (rw first at (cholesky .cholesky .ensures)) (refused .enum-told2 .given .1) (rw second at (lu .lu .ensures))
 

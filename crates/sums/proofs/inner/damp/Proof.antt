@@ -44,7 +44,8 @@ loop-again c =
     let k = start .args .k in (
       omega arith,
       rw (at-put .put .ensures, at-cell .cell .ensures)
-          (wrote-turn (λ p. p * k + p) (λ p x. plus x (start .args .lambda)) 0 (turn .p) (now (start .args .out)) (turn .out) (omega arith) (omega (arith, digits-lt test test)) (diagonal-apart k (turn .p) test) (turn .inv .1)),
+          (wrote-turn (λ p. p * k + p) (λ p x. plus x (start .args .lambda)) 0 (turn .p) (now (start .args .out)) (turn .out)
+          (omega arith) (omega (arith, digits-lt test test)) (diagonal-apart k (turn .p) test) (turn .inv .1)),
     )
 
 same-length : tie.Need-same-length Inv-loop μ-loop

@@ -50,7 +50,8 @@ loop-again c =
       omega arith,
       omega arith,
       rw (c .at-place .ensures)
-          (wrote-turn (λ q. q) (λ q s. plus s (times (a .x) (listed (now (a .terms)) (cell (a .n-cols) (now (a .theta))) (a .i) q))) (a .lo .0) (turn .q) (now (a .sums)) (turn .sums) (turn .inv .0) (omega arith) (λ q h h' e. omega arith) (turn .inv .2)),
+          (wrote-turn (λ q. q) (λ q s. plus s (times (a .x) (listed (now (a .terms)) (cell (a .n-cols) (now (a .theta))) (a .i) q)))
+          (a .lo .0) (turn .q) (now (a .sums)) (turn .sums) (turn .inv .0) (omega arith) (λ q h h' e. omega arith) (turn .inv .2)),
     )
 
 same-length : tie.Need-same-length Inv-loop μ-loop
