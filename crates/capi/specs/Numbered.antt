@@ -17,14 +17,14 @@ pub record Numbered {A : Type 0} (number-of : A → ℕ) (C : A → Type 0) (r :
   pub number : r ≡ number-of answer
 
 -- stop, refits and kept word after a fit; a refusal leaves the report unchanged
-abbrev pub reported : Fitted → List ℕ → List ℕ
-reported (Fit f) old = stop-code (f .stop) ∷ f .refits ∷ f .kept .0 ∷ []
-reported (Refused w) old = old
+abbrev pub report-numbers : Fitted → List ℕ → List ℕ
+report-numbers (Fit f) old = stop-code (f .stop) ∷ f .refits ∷ f .kept .0 ∷ []
+report-numbers (Refused w) old = old
 
 -- the call C of a fit, and its report
 pub record Reported (C : Fitted → Type 0) (old new : List ℕ) (answer : Fitted) : Type 0 where
   pub fit : C answer
-  pub report : new ≡ reported answer old
+  pub report : new ≡ report-numbers answer old
 
 -- the workspace that a fit of these sizes needs; 0 where they are beyond the limits
 unfoldable pub workspace : Solver → ℕ → ℕ → ℕ

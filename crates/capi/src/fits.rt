@@ -1,6 +1,6 @@
 // Both fits, and the workspace that each needs.
 ghost use mathlib.Core.Path.{_≡_};
-ghost use Rattle.capi.specs.Numbered.{Numbered, Reported, reported, workspace};
+ghost use Rattle.capi.specs.Numbered.{Numbered, Reported, report-numbers, workspace};
 ghost use Rattle.rule.specs.Tasks.{setup-of, task-of};
 ghost use Rattle.rule.specs.Calls.{FitCall};
 ghost use Rattle.rule.specs.Codes.{fitted-number};
@@ -13,7 +13,7 @@ use rule::stop_code;
 
 // Stop, refits and kept word of a fit into `report`; a refusal leaves it unchanged.
 fn put_report(answer: Fitted, report: &mut [u64; 3])
-    ensures { λ _. ⌜ now (report .exit) ≡ reported answer (now (report .entry)) ⌝ }
+    ensures { λ _. ⌜ now (report .exit) ≡ report-numbers answer (now (report .entry)) ⌝ }
 {
     if let Fitted::Fit(f) = answer {
         let stop = f.stop;

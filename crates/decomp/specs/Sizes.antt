@@ -4,7 +4,7 @@ use mathlib.Core.Bool.{not}
 use Prim.Native.Nat.{ℕ, _*_, _≤_}
 use borrow.Author.Tests.{ltb-false, eqb-true, not-false}
 use lib.Dec.{ltb, eqb}
-use Rattle.refusal.specs.Ladder.{passed}
+use Rattle.refusal.specs.Ladder.{not-refused}
 use Rattle.refusal.specs.declared.Answer.{Answer}
 use Rattle.refusal.specs.declared.Answer.the-variants.{Done}
 use Rattle.refusal.specs.declared.Refusal.the-variants.{ManyColumns, ManyRows, MatrixLength, OutputLength, FewRows, WorkspaceShort}
@@ -22,13 +22,13 @@ pub record Tall (m n matrix «data» betas : ℕ) : Type 0 where
 pub qr-fits : {m n matrix «data» betas space : ℕ} {sizes : Answer} → sizes ≡ qr-sizes m n matrix «data» betas space → sizes ≡ Done → Tall m n matrix «data» betas × (m ≤ space)
 unfolding qr-sizes
 qr-fits {m} {n} {matrix} {«data»} {betas} {space} judged e =
-    let few = passed (ltb 64 n) ManyColumns _ (sym judged ∙ e) in
-    let short = passed (ltb 4160 m) ManyRows _ (few .1) in
-    let cells = passed (not (eqb matrix (m * n))) MatrixLength _ (short .1) in
-    let factor = passed (not (eqb «data» (m * n))) OutputLength _ (cells .1) in
-    let scales = passed (not (eqb betas n)) OutputLength _ (factor .1) in
-    let tall = passed (ltb m n) FewRows _ (scales .1) in
-    let room = passed (ltb space m) WorkspaceShort _ (tall .1) in (
+    let few = not-refused (ltb 64 n) ManyColumns _ (sym judged ∙ e) in
+    let short = not-refused (ltb 4160 m) ManyRows _ (few .1) in
+    let cells = not-refused (not (eqb matrix (m * n))) MatrixLength _ (short .1) in
+    let factor = not-refused (not (eqb «data» (m * n))) OutputLength _ (cells .1) in
+    let scales = not-refused (not (eqb betas n)) OutputLength _ (factor .1) in
+    let tall = not-refused (ltb m n) FewRows _ (scales .1) in
+    let room = not-refused (ltb space m) WorkspaceShort _ (tall .1) in (
       record {
         few-columns = ltb-false _ _ (few .0);
         few-rows = ltb-false _ _ (short .0);

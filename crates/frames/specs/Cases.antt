@@ -4,7 +4,7 @@ use mathlib.Core.Bool.{not}
 use mathlib.Core.List.{List}
 use Prim.Native.Nat.{ℕ}
 use borrow.Author.Tests.{not-false}
-use Rattle.refusal.specs.Ladder.{passed, both-passed}
+use Rattle.refusal.specs.Ladder.{not-refused, both-done}
 use Rattle.refusal.specs.declared.Answer.{Answer}
 use Rattle.refusal.specs.declared.Answer.the-variants.{Done}
 use Rattle.refusal.specs.declared.Refusal.the-variants.{Malformed}
@@ -30,6 +30,6 @@ answer-good s task a e f = rw (e, f)
 pub was-accepted : (s : List ℕ) (task : Task) → checked s task ≡ Done → Accepted s task
 unfolding checked
 was-accepted s task e =
-    let both = both-passed (limits most-cols most-rows task) _ e in
-    let rows = passed (not (rows-formed s task)) Malformed Done (both .1) in
+    let both = both-done (limits most-cols most-rows task) _ e in
+    let rows = not-refused (not (rows-formed s task)) Malformed Done (both .1) in
     record { limited = limits-hold (both .0); formed = not-false _ (rows .0) }

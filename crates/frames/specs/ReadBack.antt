@@ -79,9 +79,9 @@ lines-read-back f r k g =
     }
 
 -- every coefficient of an input's fit is a binary64, since the digits of a target are read as one
-coefficients-held : (s : List ℕ) (task : Task) (j : ℕ) → T (fits binary64 (at (fit-asked s task .coeffs) j))
+coefficients-in-format : (s : List ℕ) (task : Task) (j : ℕ) → T (fits binary64 (at (fit-asked s task .coeffs) j))
 unfolding fit-asked
-coefficients-held s task =
+coefficients-in-format s task =
     let read = tab-column in-format (task .rows) (target s (task .cols)) (λ r. ofBits-fits binary64 _) in
     coefficients-fit task _ (at (tab (task .rows) (target s (task .cols)))) (read .each)
 
@@ -90,4 +90,4 @@ pub answer-read-back : (s : List ℕ) (task : Task) → head-of s ≡ Good task 
 unfolding answer-lines
 answer-read-back s task e c =
     let ok = was-accepted s task c in
-    rw (answer-good s task Done e c) (lines-read-back (fit-asked s task) (refits-within s task ok) (kept-within s task ok) (coefficients-held s task))
+    rw (answer-good s task Done e c) (lines-read-back (fit-asked s task) (refits-within s task ok) (kept-within s task ok) (coefficients-in-format s task))

@@ -67,16 +67,16 @@ reflect-cong m n j x t u l h =
 
 module _ (m n j : ℕ) (x : Float) (t l : List Float) (size : length l ≡ m * n) (wide : j < n) where
   -- the rows above i have had their step
-  abbrev pub Turned : ℕ → List Float → Type 0
-  Turned i l' = Rows m n (New j x (at t) (cell n l)) l i l'
+  abbrev pub Reflected : ℕ → List Float → Type 0
+  Reflected i l' = Rows m n (New j x (at t) (cell n l)) l i l'
 
-  pub turned-none : Turned j l
-  turned-none = record { long = refl; new = λ r c h g. sym (new-high j x (at t) (cell n l) r c h); old = λ r c h h' g. refl }
+  pub reflected-none : Reflected j l
+  reflected-none = record { long = refl; new = λ r c h g. sym (new-high j x (at t) (cell n l) r c h); old = λ r c h h' g. refl }
 
   -- the leading row's step
-  pub turned-lead : (l' : List Float) → Wrote (λ c. j * n + c) j n (λ c. less (at l (j * n + c)) (times (at t c) x)) l l' → Turned (j + 1) l'
-  turned-lead l' w =
-      rows-more m n _ l j l l' turned-none (w .long)
+  pub reflected-lead : (l' : List Float) → Wrote (λ c. j * n + c) j n (λ c. less (at l (j * n + c)) (times (at t c) x)) l l' → Reflected (j + 1) l'
+  reflected-lead l' w =
+      rows-more m n _ l j l l' reflected-none (w .long)
       (λ c h. ⊎-elim
       (λ k. w .rest (j * n + c) (λ c' a b q. omega arith) ∙ sym (new-left j x (at t) (cell n l) j c k))
       (λ k. w .done c k h ∙ sym (new-lead j x (at t) (cell n l) c k))
@@ -84,7 +84,7 @@ module _ (m n j : ℕ) (x : Float) (t l : List Float) (size : length l ≡ m * n
       (λ r c d h. w .rest (r * n + c) (λ c' a b q. rows-apart n r j c c' d h b q))
 
   -- the step of a row below it: v is read from column j first, and v / x stored there last
-  module _ (i : ℕ) (v : Float) (l₀ l₁ : List Float) (low : j < i) (high : i < m) (w : Turned i l₀) (lead : v ≡ cell n l₀ i j)
+  module _ (i : ℕ) (v : Float) (l₀ l₁ : List Float) (low : j < i) (high : i < m) (w : Reflected i l₀) (lead : v ≡ cell n l₀ i j)
       (u : Wrote (λ c. i * n + c) (j + 1) n (λ c. less (at l₀ (i * n + c)) (times (at t c) v)) l₀ l₁) where
     abbrev e : Entry
     e = cell n l
@@ -113,8 +113,8 @@ module _ (m n j : ℕ) (x : Float) (t l : List Float) (size : length l ≡ m * n
         ∙ ap (λ (z : Float). less (e i c) (times (at t c) z)) (lead ∙ same j wide)
         ∙ sym (new-right j x (at t) e i c low q)
 
-    pub turned-row : (l₂ : List Float) → l₂ ≡ set l₁ p y → Turned (i + 1) l₂
-    turned-row l₂ is =
+    pub reflected-row : (l₂ : List Float) → l₂ ≡ set l₁ p y → Reflected (i + 1) l₂
+    reflected-row l₂ is =
         rw is
         (rows-more m n (New j x (at t) e) l i l₀ (set l₁ p y) w (length-set l₁ p y ∙ u .long)
         (λ c h. ⊎-elim
@@ -123,6 +123,6 @@ module _ (m n j : ℕ) (x : Float) (t l : List Float) (size : length l ≡ m * n
         (lt-or-ge c j))
         (λ r c d h. getD-set-other l₁ p (r * n + c) y nan (λ q. rows-apart n r i c j d h wide q) ∙ u .rest (r * n + c) (λ c' a b q. rows-apart n r i c c' d h b q)))
 
-  pub turned-end : (l' : List Float) → Turned m l' → l' ≡ reflect m n j x (at t) l
+  pub reflected-end : (l' : List Float) → Reflected m l' → l' ≡ reflect m n j x (at t) l
   unfolding reflect
-  turned-end l' w = is-table m n _ l' nan (w .long ∙ size) (λ i c h g. w .new i c h g)
+  reflected-end l' w = is-table m n _ l' nan (w .long ∙ size) (λ i c h g. w .new i c h g)

@@ -18,7 +18,7 @@ use Rattle.rule.specs.Rule.{scatter}
 
 pub scatter-head : (n w : ℕ) (vs rest : List Float) → w < 2 ^ n → length vs ≡ ones w → scatter n w (vs ++ rest) ≡ scatter n w vs
 unfolding scatter
-scatter-head n w vs rest h len = tab-cong n _ _ (λ j l. ⊎-elim (λ e. ap (λ (x : Float). cond (has w j) x +zero) (held j e)) (λ e. rw e) (yes-or-no (has w j)))
+scatter-head n w vs rest h len = tab-cong n _ _ (λ j l. ⊎-elim (λ e. ap (λ (x : Float). cond (has w j) x +zero) (in-head j e)) (λ e. rw e) (yes-or-no (has w j)))
   where
-    held : (j : ℕ) → has w j ≡ true → at (vs ++ rest) (place w j) ≡ at vs (place w j)
-    held j e = List·getD-append vs rest nan (place w j) (omega (arith, len, place-lt w n j h (passed e)))
+    in-head : (j : ℕ) → has w j ≡ true → at (vs ++ rest) (place w j) ≡ at vs (place w j)
+    in-head j e = List·getD-append vs rest nan (place w j) (omega (arith, len, place-lt w n j h (passed e)))

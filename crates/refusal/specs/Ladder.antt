@@ -13,11 +13,11 @@ use Rattle.refusal.specs.declared.Refusal.{Refusal}
 pub ruleset ladder = (lt-ltb, le-ltb, eq-eqb, ne-eqb)
 
 -- where nothing is refused, the first test does not hold, and the rest refuses nothing
-pub passed : (t : Bool) (w : Refusal) (next : Answer) → refuse-if t w next ≡ Done → (t ≡ false) × (next ≡ Done)
-passed true w next e = let z : _≡_ {A = ℕ} 0 1 = cc in absurd (omega arith)
-passed false w next e = (refl, e)
+pub not-refused : (t : Bool) (w : Refusal) (next : Answer) → refuse-if t w next ≡ Done → (t ≡ false) × (next ≡ Done)
+not-refused true w next e = let z : _≡_ {A = ℕ} 0 1 = cc in absurd (omega arith)
+not-refused false w next e = (refl, e)
 
 -- and so of two ladders, one after the other
-pub both-passed : (a next : Answer) → and-then a next ≡ Done → (a ≡ Done) × (next ≡ Done)
-both-passed Done next e = (refl, e)
-both-passed (Refused w) next e = let z : _≡_ {A = ℕ} 0 1 = cc in absurd (omega arith)
+pub both-done : (a next : Answer) → and-then a next ≡ Done → (a ≡ Done) × (next ≡ Done)
+both-done Done next e = (refl, e)
+both-done (Refused w) next e = let z : _≡_ {A = ℕ} 0 1 = cc in absurd (omega arith)

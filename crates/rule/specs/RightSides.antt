@@ -12,7 +12,7 @@ use Rattle.steps.specs.Loops.{Way, going, stopped, final, loop-keeps, down-keep
 use Rattle.steps.specs.Space.{swapped}
 use Rattle.float64.specs.Root.{absOf}
 use Rattle.refusal.specs.Answers.{solved, solution}
-use Rattle.transpose.specs.Transpose.{turn, qt}
+use Rattle.transpose.specs.Transpose.{qt-column, qt}
 use Rattle.householder.specs.Qr.{after, betas}
 use Rattle.cholesky.specs.Cholesky.{chol-forward, chol-back, chol-end, chol-factor, cholesky}
 use Rattle.lu.specs.Lu.{pivot-row, swap-rows, lu-swap, lu-eliminate, lu-pivoted, lu-column, lu-factor, lu-forward, lu-back, lu-end, lu}
@@ -66,7 +66,7 @@ module _ {Q : Float → Type 0} (made : Rounded Q) where
         go (stopped k s) p = lu-right n (lu-factor n a b) (way-keeps (lu-column n) Second (column-right n) 0 n (a, b) c)
 
     qt-right : (m n : ℕ) (a bs b : List Float) → Right b → Right (qt m n a bs n b)
-    unfolding qt turn
+    unfolding qt qt-column
     qt-right m n a bs b c = loop-keeps Right 0 n _ b (λ j l p. loop-keeps Right j m _ l (λ i x. set-column x i _ (made .rest-of _ _)) p) c
 
     back-column-right : (n : ℕ) (a : List Float) (j : ℕ) (y : List Float) → Right y → Right (final (back-column n a j y))

@@ -8,7 +8,7 @@ use lib.Dec.{ltb, eqb}
 use lib.ListN.{length}
 use lib.Ieee.{Float}
 use Rattle.refusal.specs.Answers.{refuse-if, and-then}
-use Rattle.refusal.specs.Ladder.{passed, both-passed}
+use Rattle.refusal.specs.Ladder.{not-refused, both-done}
 use Rattle.refusal.specs.declared.Answer.{Answer}
 use Rattle.refusal.specs.declared.Answer.the-variants.{Done}
 use Rattle.refusal.specs.declared.Refusal.the-variants.{ManyColumns, ManyRows, ManyRounds, MatrixLength, TargetLength, OutputLength, WorkspaceShort}
@@ -72,9 +72,9 @@ module _ {cols rows : ℕ} {task : Task} where
   pub limits-hold : limits cols rows task ≡ Done → Limited cols rows task
   unfolding limits
   limits-hold e =
-      let few = passed (ltb cols (task .cols)) ManyColumns _ e in
-      let short = passed (ltb rows (task .rows)) ManyRows _ (few .1) in
-      let brief = passed (ltb 1000 (task .setup .«max_iter»)) ManyRounds _ (short .1) in
+      let few = not-refused (ltb cols (task .cols)) ManyColumns _ e in
+      let short = not-refused (ltb rows (task .rows)) ManyRows _ (few .1) in
+      let brief = not-refused (ltb 1000 (task .setup .«max_iter»)) ManyRounds _ (short .1) in
       record { few-cols = ltb-false _ _ (few .0); few-rows = ltb-false _ _ (short .0); few-rounds = ltb-false _ _ (brief .0) }
 
 module _ {task : Task} {theta target coeffs space : List Float} where
@@ -95,11 +95,11 @@ module _ {task : Task} {theta target coeffs space : List Float} where
   pub ready : fit-sizes task (length theta) (length target) (length coeffs) (length space) ≡ Done → Ready task theta target coeffs space
   unfolding fit-sizes lengths
   ready e =
-      let both = both-passed (limits 64 4096 task) _ e in
-      let matrix = passed (not (eqb (length theta) (task .rows * task .cols))) MatrixLength _ (both .1) in
-      let right = passed (not (eqb (length target) (task .rows))) TargetLength _ (matrix .1) in
-      let out = passed (not (eqb (length coeffs) (task .cols))) OutputLength _ (right .1) in
-      let room = passed (ltb (length space) (task-need task)) WorkspaceShort _ (out .1) in
+      let both = both-done (limits 64 4096 task) _ e in
+      let matrix = not-refused (not (eqb (length theta) (task .rows * task .cols))) MatrixLength _ (both .1) in
+      let right = not-refused (not (eqb (length target) (task .rows))) TargetLength _ (matrix .1) in
+      let out = not-refused (not (eqb (length coeffs) (task .cols))) OutputLength _ (right .1) in
+      let room = not-refused (ltb (length space) (task-need task)) WorkspaceShort _ (out .1) in
       record {
         sized = record { limited = limits-hold (both .0); theta-long = eqb-true _ _ (not-false _ (matrix .0)); target-long = eqb-true _ _ (not-false _ (right .0)) };
         coeffs-long = eqb-true _ _ (not-false _ (out .0));

@@ -4,7 +4,7 @@ use mathlib.Core.Bool.{not}
 use Prim.Native.Nat.{ℕ, _*_, _≤_}
 use borrow.Author.Tests.{ltb-false, eqb-true, not-false}
 use lib.Dec.{ltb, eqb}
-use Rattle.refusal.specs.Ladder.{passed, both-passed}
+use Rattle.refusal.specs.Ladder.{not-refused, both-done}
 use Rattle.refusal.specs.declared.Answer.{Answer}
 use Rattle.refusal.specs.declared.Answer.the-variants.{Done}
 use Rattle.refusal.specs.declared.Refusal.the-variants.{ManyColumns, ManyRows, MatrixLength, TargetLength, OutputLength, FewRows, WorkspaceShort}
@@ -19,17 +19,17 @@ pub record Square (n matrix right : ℕ) : Type 0 where
 pub square-fits : {n matrix right : ℕ} {sizes : Answer} → sizes ≡ square-sizes n matrix right → sizes ≡ Done → Square n matrix right
 unfolding square-sizes
 square-fits {n} {matrix} {right} judged e =
-    let few = passed (ltb 64 n) ManyColumns _ (sym judged ∙ e) in
-    let square = passed (not (eqb matrix (n * n))) MatrixLength _ (few .1) in
-    let column = passed (not (eqb right n)) TargetLength _ (square .1) in
+    let few = not-refused (ltb 64 n) ManyColumns _ (sym judged ∙ e) in
+    let square = not-refused (not (eqb matrix (n * n))) MatrixLength _ (few .1) in
+    let column = not-refused (not (eqb right n)) TargetLength _ (square .1) in
     record { few = ltb-false _ _ (few .0); square = eqb-true _ _ (not-false _ (square .0)); column = eqb-true _ _ (not-false _ (column .0)) }
 
 -- with the workspace of the normal equations
 pub normal-fits : {n matrix right space : ℕ} {sizes : Answer} → sizes ≡ normal-sizes n matrix right space → sizes ≡ Done → Square n matrix right × (n * n ≤ space)
 unfolding normal-sizes
 normal-fits {n} {matrix} {right} {space} judged e =
-    let both = both-passed (square-sizes n matrix right) _ (sym judged ∙ e) in
-    (square-fits refl (both .0), ltb-false _ _ (passed (ltb space (n * n)) WorkspaceShort _ (both .1) .0))
+    let both = both-done (square-sizes n matrix right) _ (sym judged ∙ e) in
+    (square-fits refl (both .0), ltb-false _ _ (not-refused (ltb space (n * n)) WorkspaceShort _ (both .1) .0))
 
 -- least squares'
 pub record Tall (m n matrix right out : ℕ) : Type 0 where
@@ -43,13 +43,13 @@ pub record Tall (m n matrix right out : ℕ) : Type 0 where
 pub least-fits : {m n matrix right out space : ℕ} {sizes : Answer} → sizes ≡ least-sizes m n matrix right out space → sizes ≡ Done → Tall m n matrix right out × (least-need m n ≤ space)
 unfolding least-sizes
 least-fits {m} {n} {matrix} {right} {out} {space} judged e =
-    let few = passed (ltb 64 n) ManyColumns _ (sym judged ∙ e) in
-    let short = passed (ltb 4160 m) ManyRows _ (few .1) in
-    let cells = passed (not (eqb matrix (m * n))) MatrixLength _ (short .1) in
-    let column = passed (not (eqb right m)) TargetLength _ (cells .1) in
-    let values = passed (not (eqb out n)) OutputLength _ (column .1) in
-    let tall = passed (ltb m n) FewRows _ (values .1) in
-    let room = passed (ltb space (least-need m n)) WorkspaceShort _ (tall .1) in (
+    let few = not-refused (ltb 64 n) ManyColumns _ (sym judged ∙ e) in
+    let short = not-refused (ltb 4160 m) ManyRows _ (few .1) in
+    let cells = not-refused (not (eqb matrix (m * n))) MatrixLength _ (short .1) in
+    let column = not-refused (not (eqb right m)) TargetLength _ (cells .1) in
+    let values = not-refused (not (eqb out n)) OutputLength _ (column .1) in
+    let tall = not-refused (ltb m n) FewRows _ (values .1) in
+    let room = not-refused (ltb space (least-need m n)) WorkspaceShort _ (tall .1) in (
       record {
         few-columns = ltb-false _ _ (few .0);
         few-rows = ltb-false _ _ (short .0);

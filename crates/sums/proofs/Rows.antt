@@ -11,7 +11,7 @@ use lib.Arith.{digits-lt}
 use lib.Ieee.{Float, nan}
 use Rattle.steps.specs.Num.{Entry, at, cell}
 use Rattle.steps.specs.Table.{table, is-table, cell-other}
-use Rattle.sums.specs.Inner.{Held, RowDone}
+use Rattle.sums.specs.Inner.{Filled, RowDone}
 
 -- t after the two stores of x
 module _ (t : List Float) (k p q : ℕ) (x : Float) (len : length t ≡ k * k) (le : p ≤ q) (hq : q < k) where
@@ -51,8 +51,8 @@ module _ (g : ℕ → Float) (k p : ℕ) where
         rest = λ i j hi hj n. there t k p q (g q) long le hq i j hj (λ a b. n a) ∙ r .rest i j hi hj n;
       }
 
-  pub row-held : (sums s t : List Float) → Held p k g sums → RowDone (at sums) k p k s t → RowDone g k p k s t
-  row-held sums s t h r =
+  pub row-filled : (sums s t : List Float) → Filled p k g sums → RowDone (at sums) k p k s t → RowDone g k p k s t
+  row-filled sums s t h r =
       record { long = r .long; done = λ i j hi hj m n. r .done i j hi hj m n ∙ h .each (max i j) (omega arith) n; rest = r .rest }
 
 -- t has the sums g of every row and column below p

@@ -7,7 +7,7 @@ use lib.Ieee.{Float}
 use Rattle.steps.specs.Num.{at, cell}
 
 -- the numbers of s from lo to below hi are those of g
-pub record Held (lo hi : ℕ) (g : ℕ → Float) (s : List Float) : Type 0 where
+pub record Filled (lo hi : ℕ) (g : ℕ → Float) (s : List Float) : Type 0 where
   pub each : (q : ℕ) → lo ≤ q → q < hi → at s q ≡ g q
 
 -- t is the k by k matrix s with g q put to (p,q) and to (q,p), for each q from p to below hi

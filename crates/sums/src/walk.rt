@@ -6,7 +6,7 @@ ghost use Rattle.steps.specs.Num.{plus, times, +zero, at, cell as cell-of};
 ghost use Rattle.steps.specs.Wrote.{Wrote};
 ghost use Rattle.places.specs.Columns.{Listed, listed};
 ghost use Rattle.sums.specs.Products.{gram, moment};
-ghost use Rattle.sums.specs.Inner.{Held};
+ghost use Rattle.sums.specs.Inner.{Filled};
 use places::inner::at_place;
 use support::Col;
 
@@ -40,8 +40,8 @@ pub fn pair_sums(
     p: Col,
     sums: &mut [f64],
 )
-    requires { ⌜ Listed «n_rows» «n_cols» k (now terms) (now theta) × (p .0 < k) × (k ≤ length (now sums)) × Held (p .0) k (λ q. +zero) (now sums) ⌝ }
-    ensures { λ _. ⌜ Held (p .0) k (gram (listed (now (terms .entry)) (cell-of «n_cols» (now (theta .entry)))) «n_rows» (p .0)) (now (sums .exit)) ⌝ }
+    requires { ⌜ Listed «n_rows» «n_cols» k (now terms) (now theta) × (p .0 < k) × (k ≤ length (now sums)) × Filled (p .0) k (λ q. +zero) (now sums) ⌝ }
+    ensures { λ _. ⌜ Filled (p .0) k (gram (listed (now (terms .entry)) (cell-of «n_cols» (now (theta .entry)))) «n_rows» (p .0)) (now (sums .exit)) ⌝ }
 {
     for i in 0..n_rows {
         let x = at_place(theta, n_rows, n_cols, terms, k, i, p);
@@ -59,8 +59,8 @@ pub fn target_sums(
     k: usize,
     sums: &mut [f64],
 )
-    requires { ⌜ Listed «n_rows» «n_cols» k (now terms) (now theta) × (length (now target) ≡ «n_rows») × (k ≤ length (now sums)) × Held 0 k (λ q. +zero) (now sums) ⌝ }
-    ensures { λ _. ⌜ Held 0 k (moment (listed (now (terms .entry)) (cell-of «n_cols» (now (theta .entry)))) (at (now (target .entry))) «n_rows») (now (sums .exit)) ⌝ }
+    requires { ⌜ Listed «n_rows» «n_cols» k (now terms) (now theta) × (length (now target) ≡ «n_rows») × (k ≤ length (now sums)) × Filled 0 k (λ q. +zero) (now sums) ⌝ }
+    ensures { λ _. ⌜ Filled 0 k (moment (listed (now (terms .entry)) (cell-of «n_cols» (now (theta .entry)))) (at (now (target .entry))) «n_rows») (now (sums .exit)) ⌝ }
 {
     for i in 0..n_rows {
         add_row(theta, n_rows, n_cols, terms, k, i, target[i], Col(0), sums);

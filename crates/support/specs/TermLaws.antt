@@ -95,13 +95,13 @@ term-full n p l h =
 -- the term j is in w, and its reduced place is c
 pub record Member (w c j : ℕ) : Type 0 where
   pub below : j < 64
-  pub held : T (has w j)
+  pub in-it : T (has w j)
   pub placed : place w j ≡ c
 
 pub term-at-is : (w c : ℕ) → w < 2 ^ 64 → c < ones w → Member w c (term-at w c)
 term-at-is w c s h =
     let i = term-is 64 w c (rw (← ones-is w 64 s) h) in
-    record { below = i .below; held = i .passes; placed = place-is w (term-at w c) ∙ i .place }
+    record { below = i .below; in-it = i .passes; placed = place-is w (term-at w c) ∙ i .place }
 
 pub term-at-place : (w j : ℕ) → w < 2 ^ 64 → T (has w j) → term-at w (place w j) ≡ j
 term-at-place w j s t = ap (term-at w) (place-is w j) ∙ term-of-place 64 w j (has-lt w 64 j s t) t

@@ -24,7 +24,7 @@ unfoldable pub opened : Unit {0}
 unfolding ofBits add sub neg mul div lt le eq round size sum isNan
     L.turns L.loop L.down-from L.way L.way-down S.sum S.less-sum T.tab T.table P.swapped
     R.isqrt R.units R.nearestRoot R.rootOf R.absOf R.greaterOf
-    D.led D.along Q.sign Q.share Q.lose Q.store Q.reflect Q.pushed Q.normed Q.column Q.after Q.beta Q.betas X.turn X.qt
+    D.led D.along Q.sign Q.share Q.lose Q.store Q.reflect Q.pushed Q.normed Q.column Q.after Q.beta Q.betas X.qt-column X.qt
     C.scale C.reduced C.chol-below C.chol-store C.chol-column C.chol-factor C.chol-forward C.chol-back C.chol-end C.cholesky
     U.pivot-row U.swap-rows U.lu-swap U.less-row U.lu-row U.eliminated U.lu-eliminate U.lu-pivoted U.lu-column U.lu-factor U.lu-forward U.lu-back U.lu-end U.lu
     E.or-lu E.normal M.above M.back-column M.back M.values M.least

@@ -9,15 +9,15 @@ use Rattle.steps.specs.Loops.{loop}
 use Rattle.transpose.specs.Led.{led, along}
 
 -- Q-transpose, column j: a leading 1 and the stored entries, skipped columns too; b loses (beta * w) * v(i)
-unfoldable pub turn : ℕ → ℕ → List Float → Float → ℕ → List Float → List Float
-turn m n a beta j b =
+unfoldable pub qt-column : ℕ → ℕ → List Float → Float → ℕ → List Float → List Float
+qt-column m n a beta j b =
     let v = led one (cell n a) j in
     let w = along j m v (at b) in
     loop j m (λ i l. set l i (less (at l i) (times (times beta w) (v i)))) b
 
 -- the first k columns in turn
 unfoldable pub qt : ℕ → ℕ → List Float → List Float → ℕ → List Float → List Float
-qt m n a betas k b = loop 0 k (λ j. turn m n a (at betas j) j) b
+qt m n a betas k b = loop 0 k (λ j. qt-column m n a (at betas j) j) b
 
 -- a matrix of m by n that is no wider than tall, and a right-hand side behind it
 pub record Packed (m n : ℕ) (s : List Float) : Type 0 where

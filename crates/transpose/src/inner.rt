@@ -5,7 +5,7 @@ ghost use Prim.Native.Nat.{_+_, _*_, _<_};
 ghost use lib.ListN.{length, take, drop};
 ghost use Rattle.steps.specs.Num.{one, at, cell};
 ghost use Rattle.transpose.specs.Led.{led, along};
-ghost use Rattle.transpose.specs.Transpose.{Packed, turn, qt};
+ghost use Rattle.transpose.specs.Transpose.{Packed, qt-column, qt};
 
 // Row i of column j, whose leading entry is x.
 pub fn led_at(a: &[f64], n: usize, i: usize, j: usize, x: f64) -> f64
@@ -35,7 +35,7 @@ fn stored_dot(s: &[f64], m: usize, n: usize, j: usize) -> f64
 // Q-transpose, column j.
 fn turn_column(s: &mut [f64], m: usize, n: usize, j: usize, beta: f64)
     requires { ⌜ (Packed m n (now s)) × (j < n) ⌝ }
-    ensures { λ _. ⌜ now (s .exit) ≡ take (m * n) (now (s .entry)) ++ turn m n (take (m * n) (now (s .entry))) beta j (drop (m * n) (now (s .entry))) ⌝ }
+    ensures { λ _. ⌜ now (s .exit) ≡ take (m * n) (now (s .entry)) ++ qt-column m n (take (m * n) (now (s .entry))) beta j (drop (m * n) (now (s .entry))) ⌝ }
 {
     let mn = m * n;
     let w = stored_dot(s, m, n, j);

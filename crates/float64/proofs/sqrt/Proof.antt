@@ -14,11 +14,11 @@ use Rattle.float64.proofs.sqrt.Tie as tie
 abbrev x : tie.Start → Float
 x c = c .args .x
 
-held : (c : tie.Start) → T (fits binary64 (x c))
-held c = subst T (sym (c .good .0 .1)) tt
+in-binary64 : (c : tie.Start) → T (fits binary64 (x c))
+in-binary64 c = subst T (sym (c .good .0 .1)) tt
 
 given : (c : tie.Start) {r : Float} → r ≡ rootOf (x c) → SqrtCall (x c) r
-given c {r} = root-call (x c) r (held c)
+given c {r} = root-call (x c) r (in-binary64 c)
 
 returns : tie.Need-returns
 returns c = let start = c .before in given start (root-nan (x start) (is-nan (x start) (c .if1 .taken)))
@@ -33,13 +33,13 @@ float-to-bits-b : tie.Need-float-to-bits-b
 float-to-bits-b c = no-nan (x (c .before .before .before)) (c .before .before .if1 .left)
 
 returns-4 : tie.Need-returns-4
-returns-4 c = let start = c .before .before .before .before in given start (root-inf (x start) (held start) (c .if4 .taken))
+returns-4 c = let start = c .before .before .before .before in given start (root-inf (x start) (in-binary64 start) (c .if4 .taken))
 
 root-pattern-requires : tie.Need-root-pattern-requires
 root-pattern-requires c κs =
     let zero = c .before .before in
     let start = zero .before .before in
-    in-range (x start) (held start) (no-nan (x start) (zero .before .if1 .left)) (zero .if2 .left) (c .before .if3 .left) (c .if4 .left)
+    in-range (x start) (in-binary64 start) (no-nan (x start) (zero .before .if1 .left)) (zero .if2 .left) (c .before .if3 .left) (c .if4 .left)
 
 float-from-bits-result : tie.Need-float-from-bits-result
 float-from-bits-result c = below-inf (c .root-pattern .result) (c .root-pattern .ensures .small)
@@ -49,7 +49,7 @@ returns-5 c =
     let inf = c .before in
     let zero = inf .before .before in
     let start = zero .before .before in
-    let units = value (x start) (held start) (no-nan (x start) (zero .before .if1 .left)) (zero .if2 .left) (inf .before .if3 .left) (inf .if4 .left) in
+    let units = value (x start) (in-binary64 start) (no-nan (x start) (zero .before .if1 .left)) (zero .if2 .left) (inf .before .if3 .left) (inf .if4 .left) in
     given start (c .root-pattern .ensures .reads ∙ root-of-units (x start) _ units (zero .if2 .left))
 
 pub sqrt-spec : {M : Type 1} → statement M

@@ -9,7 +9,7 @@ use denote.Ref.{now}
 use Rattle.steps.specs.Num.{at, cell}
 use Rattle.steps.specs.Table.{row-fits}
 use Rattle.steps.specs.Rows.{Rows}
-use Rattle.householder.proofs.Rows.{New, turned-lead, turned-row, turned-end}
+use Rattle.householder.proofs.Rows.{New, reflected-lead, reflected-row, reflected-end}
 use Rattle.householder.proofs.inner.update.Statement.{statement}
 use Rattle.householder.proofs.inner.update.Tie as tie
 
@@ -88,7 +88,7 @@ loop-again c =
       omega (arith, turn),
       omega (arith, test),
       stored .kept .0 ∙ row .kept .0 ∙ turn .inv .2,
-      λ l size rows. turned-row (args .m) (args .n) (args .j) (args .x) (now (args .t)) l size (start .pre .0 .wide)
+      λ l size rows. reflected-row (args .m) (args .n) (args .j) (args .x) (now (args .t)) l size (start .pre .0 .wide)
           (turn .i) _ (turn .a) (row .last .0) (omega (arith, turn)) (test .loop-test .taken) (turn .inv .3 l size rows) (at-cell .cell .ensures) (row .ensures) _ (stored .ensures),
     )
 
@@ -105,8 +105,8 @@ returns c =
     let shape = start .pre .0 in
     let end = at-loop .loop in
     let all : end .i ≡ start .args .m = omega arith in
-    let first = turned-lead (start .args .m) (start .args .n) (start .args .j) (start .args .x) t a (shape .size) (shape .wide) _ (at-less-row .less-row .ensures) in
-    turned-end (start .args .m) (start .args .n) (start .args .j) (start .args .x) t a (shape .size) (shape .wide) _ (rw all at (end .inv .3 a (shape .size) first))
+    let first = reflected-lead (start .args .m) (start .args .n) (start .args .j) (start .args .x) t a (shape .size) (shape .wide) _ (at-less-row .less-row .ensures) in
+    reflected-end (start .args .m) (start .args .n) (start .args .j) (start .args .x) t a (shape .size) (shape .wide) _ (rw all at (end .inv .3 a (shape .size) first))
 
 pub update-spec : {M : Type 1} → statement M
 update-spec =

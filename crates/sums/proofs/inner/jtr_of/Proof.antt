@@ -4,7 +4,7 @@ use native.Mathlib.Omega.{arith}
 use borrow.Author.Needs.{needs}
 use Rattle.places.specs.ColumnLaws.{listed-in}
 use Rattle.sums.proofs.Listed.{jtr-listed}
-use Rattle.sums.proofs.Walks.{cleared-zeros, held-all}
+use Rattle.sums.proofs.Walks.{cleared-zeros, filled-all}
 use Rattle.sums.proofs.inner.jtr_of.Statement.{statement}
 use Rattle.sums.proofs.inner.jtr_of.Tie as tie
 
@@ -48,7 +48,7 @@ returns c =
     let counted = cleared .before .before in
     let list = counted .before .before .list-terms in
     let start = counted .before .before .before .before .before .before .before in
-    held-all _ _ _ (sums .kept .1 .1 .1 .1 .1 .1 .0 ∙ cleared .clear .kept .0 ∙ start .pre .2) (rw (counted .count .ensures) at (sums .ensures))
+    filled-all _ _ _ (sums .kept .1 .1 .1 .1 .1 .1 .0 ∙ cleared .clear .kept .0 ∙ start .pre .2) (rw (counted .count .ensures) at (sums .ensures))
     ∙ jtr-listed _ _ _ _ (list .ensures) _ _
 
 pub jtr-of-spec : {M : Type 1} → statement M

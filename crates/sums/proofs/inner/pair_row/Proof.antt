@@ -2,7 +2,7 @@
 use Prim.Native.Nat.{_≤_}
 use native.Mathlib.Omega.{arith}
 use borrow.Author.Needs.{needs}
-use Rattle.sums.proofs.Rows.{row-held}
+use Rattle.sums.proofs.Rows.{row-filled}
 use Rattle.sums.proofs.Walks.{zeros}
 use Rattle.sums.proofs.inner.pair_row.Statement.{statement}
 use Rattle.sums.proofs.inner.pair_row.Tie as tie
@@ -28,7 +28,7 @@ same-length c = search needs
 returns : tie.Need-returns
 returns c =
     let put = c .before .before in
-    row-held _ _ _ _ _ _ (put .before .before .before .before .pair-sums .ensures) (put .put-row .ensures)
+    row-filled _ _ _ _ _ _ (put .before .before .before .before .pair-sums .ensures) (put .put-row .ensures)
 
 pub pair-row-spec : {M : Type 1} → statement M
 pair-row-spec = tie.close (tie.spec slice-aggregate-pair-sums pair-sums-requires slice-aggregate-put-row put-row-requires same-length returns)

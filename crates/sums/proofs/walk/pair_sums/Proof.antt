@@ -6,14 +6,14 @@ use lib.ListN.{length}
 use Rattle.steps.specs.Num.{cell}
 use Rattle.places.specs.Columns.{listed}
 use Rattle.sums.specs.Products.{gram}
-use Rattle.sums.specs.Inner.{Held}
+use Rattle.sums.specs.Inner.{Filled}
 use Rattle.sums.proofs.Walks.{pairs-none, pairs-more}
 use Rattle.sums.proofs.walk.pair_sums.Statement.{statement}
 use Rattle.sums.proofs.walk.pair_sums.Tie as tie
 
 abbrev Inv-loop : tie.InvT-loop
 Inv-loop theta n-rows n-cols terms k p sums₀ i₀ sums i =
-    (i ≤ n-rows) × (length sums ≡ length sums₀) × Held (p .0) k (gram (listed terms (cell n-cols theta)) i (p .0)) sums
+    (i ≤ n-rows) × (length sums ≡ length sums₀) × Filled (p .0) k (gram (listed terms (cell n-cols theta)) i (p .0)) sums
 
 abbrev μ-loop : tie.MeasureT-loop
 μ-loop theta n-rows n-cols terms k p sums₀ i₀ sums i = n-rows - i

@@ -6,14 +6,14 @@ use lib.ListN.{length}
 use Rattle.steps.specs.Num.{at, cell}
 use Rattle.places.specs.Columns.{listed}
 use Rattle.sums.specs.Products.{moment}
-use Rattle.sums.specs.Inner.{Held}
+use Rattle.sums.specs.Inner.{Filled}
 use Rattle.sums.proofs.Walks.{targets-none, targets-more}
 use Rattle.sums.proofs.walk.target_sums.Statement.{statement}
 use Rattle.sums.proofs.walk.target_sums.Tie as tie
 
 abbrev Inv-loop : tie.InvT-loop
 Inv-loop theta target n-rows n-cols terms k sums₀ i₀ sums i =
-    (i ≤ n-rows) × (length sums ≡ length sums₀) × Held 0 k (moment (listed terms (cell n-cols theta)) (at target) i) sums
+    (i ≤ n-rows) × (length sums ≡ length sums₀) × Filled 0 k (moment (listed terms (cell n-cols theta)) (at target) i) sums
 
 abbrev μ-loop : tie.MeasureT-loop
 μ-loop theta target n-rows n-cols terms k sums₀ i₀ sums i = n-rows - i

@@ -1,4 +1,4 @@
--- `apply_qt` meets its contract. The loop's invariant: the matrix is as it was, and behind it stands the turn of the columns passed.
+-- `apply_qt` meets its contract. The loop's invariant: the matrix is as it was, and behind it stands what the columns passed make of it.
 use mathlib.Core.Path.{_≡_, refl, ap, _∙_}
 use mathlib.Core.List.{List, _++_}
 use Prim.Native.Nat.{_+_, _*_, _-_, _≤_}
@@ -10,7 +10,7 @@ use denote.Ref.{now}
 use Rattle.steps.specs.Num.{at}
 use Rattle.steps.specs.Loops.{loop-more}
 use Rattle.steps.specs.Glue.{seen, glued-none}
-use Rattle.transpose.specs.Transpose.{turn, qt}
+use Rattle.transpose.specs.Transpose.{qt-column, qt}
 use Rattle.transpose.proofs.inner.apply_qt.Statement.{statement}
 use Rattle.transpose.proofs.inner.apply_qt.Tie as tie
 
@@ -58,8 +58,8 @@ loop-again c =
     let turned = c .before .before .turn-column in (
       omega (arith, test),
       turned .kept .0 ∙ now-at .inv .1,
-      seen a _ (now-at .s) k len (now-at .inv .2) (λ x y. turn (args .m) (args .n) x (at (now (args .betas)) (now-at .j)) (now-at .j) y) (turned .ensures)
-          ∙ ap (λ (z : List Float). a ++ z) (loop-more 0 (now-at .j) (λ j. turn (args .m) (args .n) a (at (now (args .betas)) j) j) b (omega arith) refl refl),
+      seen a _ (now-at .s) k len (now-at .inv .2) (λ x y. qt-column (args .m) (args .n) x (at (now (args .betas)) (now-at .j)) (now-at .j) y) (turned .ensures)
+          ∙ ap (λ (z : List Float). a ++ z) (loop-more 0 (now-at .j) (λ j. qt-column (args .m) (args .n) a (at (now (args .betas)) j) j) b (omega arith) refl refl),
     )
 
 same-length : tie.Need-same-length Inv-loop μ-loop

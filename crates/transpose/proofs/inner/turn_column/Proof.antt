@@ -11,7 +11,7 @@ use Rattle.steps.specs.Num.{less, times, one, at, cell}
 use Rattle.steps.specs.Loops.{loop}
 use Rattle.steps.specs.Glue.{at-back, take-front, glued-none, glued-more}
 use Rattle.transpose.specs.Led.{led}
-use Rattle.transpose.specs.Transpose.{turn}
+use Rattle.transpose.specs.Transpose.{qt-column}
 use Rattle.transpose.proofs.Front.{led-take}
 use Rattle.transpose.proofs.inner.turn_column.Statement.{statement}
 use Rattle.transpose.proofs.inner.turn_column.Tie as tie
@@ -92,7 +92,7 @@ same-length : tie.Need-same-length Inv-loop μ-loop
 same-length c = c .before .loop .inv .2
 
 returns : tie.Need-returns Inv-loop μ-loop
-unfolding turn
+unfolding qt-column
 returns c =
     let end = c .before .loop in
     let all : end .i ≡ c .before .before .before .before .before .args .m = omega arith in
