@@ -9,10 +9,10 @@ abbrev pub head : ℕ
 head = 9
 
 -- what follows them within a list of n bytes: a name, or an input and its answer
-abbrev pub Placed : Entry → ℕ → ℕ → Type 0
-Placed (Name end) from n = (from ≤ end) × (end ≤ n)
-Placed (Exchange mid end) from n = (from ≤ mid) × (mid ≤ end) × (end ≤ n)
-Placed Nothing from n = Unit
+abbrev pub EndsIn : Entry → ℕ → ℕ → Type 0
+EndsIn (Name end) from n = (from ≤ end) × (end ≤ n)
+EndsIn (Exchange mid end) from n = (from ≤ mid) × (mid ≤ end) × (end ≤ n)
+EndsIn Nothing from n = Unit
 
 -- a group ends within the list, and each of its exchanges takes some of it
 pub record Tallied (t : Tally) (from n : ℕ) : Type 0 where

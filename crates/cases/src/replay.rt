@@ -6,7 +6,7 @@ ghost use mathlib.Core.Bool.{true};
 ghost use lib.ListN.{length};
 ghost use Rattle.frames.specs.Exchange.{answer-of};
 ghost use Rattle.cases.specs.declared.replay.Entry.the-variants.{Name, Exchange};
-ghost use Rattle.cases.specs.List.{head, Placed, Tallied};
+ghost use Rattle.cases.specs.List.{head, EndsIn, Tallied};
 use hex::inner::all_hex;
 use hex::inner::number_at;
 use hex::inner::size;
@@ -32,7 +32,7 @@ const HEAD: usize = 9;
 // The entry of two texts of these lengths from a place on, if they end within the list.
 fn entry_of(from: usize, end: usize, first: usize, second: usize) -> Entry
     requires { ⌜ from ≤ end ⌝ }
-    ensures { λ r. ⌜ Placed r from end ⌝ }
+    ensures { λ r. ⌜ EndsIn r from end ⌝ }
 {
     if first > end - from {
         return Entry::Nothing;
@@ -50,7 +50,7 @@ fn entry_of(from: usize, end: usize, first: usize, second: usize) -> Entry
 // The entry at a place.
 fn entry_at(list: &[u8], at: usize) -> Entry
     requires { ⌜ at ≤ length (now list) ⌝ }
-    ensures { λ r. ⌜ Placed r (at + head) (length (now (list .entry))) ⌝ }
+    ensures { λ r. ⌜ EndsIn r (at + head) (length (now (list .entry))) ⌝ }
 {
     if list.len() - at < HEAD {
         return Entry::Nothing;
@@ -74,7 +74,7 @@ fn alike(input: &[u8], wanted: &[u8]) -> bool
 
 // Whether the input of an entry is answered so.
 fn answered(list: &[u8], from: usize, mid: usize, end: usize) -> bool
-    requires { ⌜ Placed (Exchange mid end) from (length (now list)) ⌝ }
+    requires { ⌜ EndsIn (Exchange mid end) from (length (now list)) ⌝ }
 {
     alike(&list[from..mid], &list[mid..end])
 }
@@ -91,7 +91,7 @@ fn say_tally(name: &[u8], alike: usize, all: usize) {
 
 // The same, of a group by its name.
 fn say_group(list: &[u8], from: usize, end: usize, alike: usize, all: usize)
-    requires { ⌜ Placed (Name end) from (length (now list)) ⌝ }
+    requires { ⌜ EndsIn (Name end) from (length (now list)) ⌝ }
 {
     say_tally(&list[from..end], alike, all);
 }

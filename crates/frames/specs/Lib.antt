@@ -2,7 +2,7 @@
 pub mod Limits
 pub mod Exchange
 pub mod Cases
-pub mod Within
+pub mod InDigits
 pub mod ReadBack
 pub mod Unique
 pub mod Examples

@@ -26,7 +26,7 @@ use Rattle.reader.specs.Rows.{target}
 use Rattle.frames.specs.Exchange.{checked, fit-asked, fit-lines, answer-lines, answer-of}
 use Rattle.frames.specs.Cases.{answer-good, was-accepted}
 use Rattle.writer.specs.Lines.{lines-append, length-lines, length-report}
-use Rattle.frames.specs.Within.{refits-within, kept-within}
+use Rattle.frames.specs.InDigits.{refits-within, kept-within}
 use Rattle.reader.specs.declared.inner.header.Head.the-variants.{Good}
 use Rattle.refusal.specs.declared.Answer.the-variants.{Done}
 

@@ -14,7 +14,7 @@ use Rattle.rule.specs.declared.Report.{Report}
 use Rattle.rule.specs.declared.Fitted.{Fitted}
 use Rattle.rule.specs.declared.Fitted.the-variants as F
 use Rattle.rule.specs.Rule.{Fit, refitted}
-use Rattle.rule.specs.Tasks.{within}
+use Rattle.rule.specs.Tasks.{with-limit}
 use Rattle.rule.specs.Fits.{keeps, clears, problem, fit-by, matrix-of, problem-of, fit-of}
 use Rattle.rule.specs.Sizes.{task-need, Limited, Sized, Ready}
 use Rattle.rule.specs.Calls.{report-of, FitCall}
@@ -36,7 +36,7 @@ pub record Few (ws : List ℕ) (n limit : ℕ) (report : Report) : Type 0 where
 module _ (task : Task) (theta target : List Float) where
   -- a call at a limit of rounds: the coefficients before and after, the workspace before and after, and the answer
   abbrev pub Call : ℕ → List Float → List Float → List Float → List Float → Fitted → Type 0
-  Call limit cs cs' w w' answer = FitCall (within task limit) theta target cs cs' w w' answer
+  Call limit cs cs' w w' answer = FitCall (with-limit task limit) theta target cs cs' w w' answer
 
   -- the supports of the refits that the rule makes within a limit, the newest first
   abbrev pub refits-of : ℕ → List ℕ
@@ -44,7 +44,7 @@ module _ (task : Task) (theta target : List Float) where
 
   -- the fit of the rule
   abbrev rule : ℕ → Fit
-  rule limit = fit-of (within task limit) theta target
+  rule limit = fit-of (with-limit task limit) theta target
 
   -- at any threshold: if a call fits and stops for any reason but running out of rounds, every call with a larger permitted limit
   -- (and slices that are long enough) gives the same report and the same coefficients, whatever its slices held
@@ -55,9 +55,9 @@ module _ (task : Task) (theta target : List Float) where
   unfolding fit-by problem keeps clears matrix-of
   calls-stable {r} {m} {report} {ds} {v} one stops more permitted long room two =
       let a = was-ready one in
-      let limited : Limited 64 4096 (within task m) = record { few-cols = a .sized .limited .few-cols; few-rows = a .sized .limited .few-rows; few-rounds = permitted } in
-      let sized : Sized (within task m) theta target = record { limited = limited; theta-long = a .sized .theta-long; target-long = a .sized .target-long } in
-      let b : Ready (within task m) theta target ds v = record { sized = sized; coeffs-long = long; space-long = room } in
+      let limited : Limited 64 4096 (with-limit task m) = record { few-cols = a .sized .limited .few-cols; few-rows = a .sized .limited .few-rows; few-rounds = permitted } in
+      let sized : Sized (with-limit task m) theta target = record { limited = limited; theta-long = a .sized .theta-long; target-long = a .sized .target-long } in
+      let b : Ready (with-limit task m) theta target ds v = record { sized = sized; coeffs-long = long; space-long = room } in
       let told : report ≡ report-of (rule r) = report-is one in
       let same : rule m ≡ rule r = stable task (matrix-of task theta) (at target) .steady r m more (λ e. stops (ap (λ p. p .stop) told ∙ e)) in
       (answers b two ∙ ap (λ f. F.Fit (report-of f)) same ∙ ap F.Fit (sym told), leaves b two ∙ ap (λ f. f .coeffs) same ∙ sym (leaves a one))

@@ -13,6 +13,6 @@ setup-of threshold lambda limit = record { threshold = threshold; lambda = lambd
 abbrev pub task-of : Solver → ℕ → ℕ → Setup → Task
 task-of solver rows n setup = record { solver = solver; rows = rows; cols = n; setup = setup }
 
--- the same task within another limit of rounds
-abbrev pub within : Task → ℕ → Task
-within task limit = task-of (task .solver) (task .rows) (task .cols) (setup-of (task .setup .threshold) (task .setup .lambda) limit)
+-- the same task with another limit of rounds
+abbrev pub with-limit : Task → ℕ → Task
+with-limit task limit = task-of (task .solver) (task .rows) (task .cols) (setup-of (task .setup .threshold) (task .setup .lambda) limit)

@@ -4,7 +4,7 @@ use borrow.Author.Needs.{needs}
 use native.Mathlib.Omega.{arith}
 use lib.ListN.{length}
 use Rattle.cases.specs.declared.replay.Entry.the-variants.{Exchange}
-use Rattle.cases.specs.List.{head, Placed}
+use Rattle.cases.specs.List.{head, EndsIn}
 use Rattle.cases.proofs.replay.group.Statement.{statement}
 use Rattle.cases.proofs.replay.group.Tie as tie
 
@@ -16,7 +16,7 @@ abbrev μ-loop : tie.MeasureT-loop
 
 -- where the entry of a turn stands
 found : (c : tie.After-mid Inv-loop μ-loop) → let turn = c .before .before .before .before in
-    Placed (Exchange (c .mid .given .0 .0) (c .mid .given .0 .1 .0)) (turn .loop .at + head) (length (turn .before .before .args .list .now))
+    EndsIn (Exchange (c .mid .given .0 .0) (c .mid .given .0 .1 .0)) (turn .loop .at + head) (length (turn .before .before .args .list .now))
 found c = rw (c .mid .given .1) at (c .before .before .entry-at .ensures)
 
 loop-holds : tie.Need-loop-holds Inv-loop μ-loop
