@@ -73,7 +73,7 @@ round-at w m k z h l =
 pattern-of : (n m k : ℕ) → n ≡ m * 2 ^ k → 2 ^ 52 ≤ m → m < 2 ^ 53 → 0 + (size n - 53) * 2 ^ 52 + n / 2 ^ (size n - 53) ≡ k * 2 ^ 52 + m
 pattern-of n m k e lo hi =
     let s : size n ≡ suc (52 + k) = ap size e
-        ∙ size-at (52 + k) (m * 2 ^ k) (le-trans (le-of-eq (pow-add 2 52 k)) (mul-le-mul-right (2 ^ k) lo)) (lt-of-lt-of-le (shl-lt 53 k hi) (pow-mono (omega arith))) in
+    ∙ size-at (52 + k) (m * 2 ^ k) (le-trans (le-of-eq (pow-add 2 52 k)) (mul-le-mul-right (2 ^ k) lo)) (lt-of-lt-of-le (shl-lt 53 k hi) (pow-mono (omega arith))) in
     let d : size n - 53 ≡ k = ap (λ (x : ℕ). x - 53) s ∙ less k in
     ap (λ (j : ℕ). 0 + j * 2 ^ 52 + n / 2 ^ j) d
     ∙ ap (λ (x : ℕ). 0 + k * 2 ^ 52 + x) (ap (λ (x : ℕ). x / 2 ^ k) e ∙ mul-div-cancel m (pow-pos k))
