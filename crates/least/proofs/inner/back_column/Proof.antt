@@ -1,5 +1,5 @@
 -- `back_column` meets its contract: stopped at a small diagonal, else divided and the entries above updated.
-use mathlib.Core.Path.{_≡_, refl, _∙_}
+use mathlib.Core.Path.{refl, _∙_}
 use Prim.Native.Nat.{_+_, _*_, _<_}
 use native.Mathlib.Omega.{arith}
 use lib.Arith.{digits-lt}
