@@ -5,7 +5,7 @@ ghost use Prim.Native.Nat.{_+_, _*_, _<_};
 ghost use lib.ListN.{length, take, drop};
 ghost use Rattle.refusal.specs.Answers.{told};
 ghost use Rattle.transpose.specs.Transpose.{Packed};
-ghost use Rattle.least.specs.Least.{above, back, values, least};
+ghost use Rattle.least.specs.Least.{above, back-column, back, values, least};
 use float64::abs;
 use householder::inner::factor;
 use refusal::Solved;
@@ -25,21 +25,33 @@ fn lessen_above(s: &mut [f64], m: usize, n: usize, j: usize)
     }
 }
 
-// Back substitution from the last column, refused at a small diagonal.
+// Column j: its entry is divided by the diagonal, which is refused where it is small, then the entries above are updated.
+fn back_column(s: &mut [f64], m: usize, n: usize, j: usize) -> Solved
+    requires { ⌜ (Packed m n (now s)) × (j < n) ⌝ }
+    ensures { λ r. ⌜ (told r (drop (m * n) (now (s .exit))) ≡ back-column n (take (m * n) (now (s .entry))) j (drop (m * n) (now (s .entry)))) × (take (m * n) (now (s .exit)) ≡ take (m * n) (now (s .entry))) ⌝ }
+{
+    let mn = m * n;
+    let r = cell(s, n, j, j);
+    if abs(r) < 1e-15 {
+        return Solved::Refused(j);
+    }
+    s[mn + j] = s[mn + j] / r;
+    lessen_above(s, m, n, j);
+    Solved::Done
+}
+
+// Back substitution from the last column.
 fn back_substitute(s: &mut [f64], m: usize, n: usize) -> Solved
     requires { ⌜ Packed m n (now s) ⌝ }
     ensures { λ r. ⌜ told r (drop (m * n) (now (s .exit))) ≡ back n (take (m * n) (now (s .entry))) (drop (m * n) (now (s .entry))) ⌝ }
 {
-    let mn = m * n;
     let mut j = n;
     while j > 0 {
         j -= 1;
-        let r = cell(s, n, j, j);
-        if abs(r) < 1e-15 {
-            return Solved::Refused(j);
-        }
-        s[mn + j] = s[mn + j] / r;
-        lessen_above(s, m, n, j);
+        let column = back_column(s, m, n, j);
+        let Solved::Done = column else {
+            return column;
+        };
     }
     Solved::Done
 }

@@ -83,7 +83,7 @@ abbrev pub least-out : Solution → List Float → List Float
 least-out (solved x) old = x
 least-out (refused c) old = old
 
--- what stands so answered, and in the output
+-- both: r answers so, and the output becomes so
 pub record Solves (x : Solution) (o o' : List Float) (r : Answer) : Type 0 where
   pub answer : r ≡ least-answer x
   pub out : o' ≡ least-out x o
