@@ -56,10 +56,10 @@ module _ (n k j : ℕ) (s : List Float) (r : Float) (inside : j * n + j < k) (re
 
 -- QR in front, Q-transpose behind, back substitution: as a part from 0 comes back
 pub least-is : (m n k : ℕ) (s f b t : List Float) (x : Way (List Float)) → length f ≡ k → f ≡ after m n (take (k - 0) s) n → b ≡ betas m n (take (k - 0) s) → let u = f ++ drop (k - 0) s in
-    t ≡ take k u ++ qt m n (take k u) b n (drop k u) → x ≡ back n (take k t) (drop k t) → values n x ≡ least m n (take k s) (drop k s)
+    t ≡ take k u ++ qt m n (take k u) b (drop k u) → x ≡ back n (take k t) (drop k t) → values n x ≡ least m n (take k s) (drop k s)
 unfolding least
 least-is m n k s f b t x len is-f is-b is-t is-x =
-    let q : t ≡ f ++ qt m n f b n (drop k s) = seen f (drop k s) (f ++ drop k s) k len refl (λ x y. qt m n x b n y) (rw sub-zero at is-t) in
+    let q : t ≡ f ++ qt m n f b (drop k s) = seen f (drop k s) (f ++ drop k s) k len refl (λ x y. qt m n x b y) (rw sub-zero at is-t) in
     ap (values n) (is-x ∙ rw (take-front f _ t k len q, drop-back f _ t k len q, rw sub-zero at is-f, rw sub-zero at is-b))
 
 -- a and b copied into a slice of their length: the solve of what stands there is theirs

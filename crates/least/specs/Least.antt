@@ -35,4 +35,4 @@ values n (stopped c x) = refused c
 
 -- the least squares solution of the m by n matrix a and the right-hand side b
 unfoldable pub least : ℕ → ℕ → List Float → List Float → Solution
-least m n a b = let f = after m n a n in values n (back n f (qt m n f (betas m n a) n b))
+least m n a b = let f = after m n a n in values n (back n f (qt m n f (betas m n a) b))

@@ -65,7 +65,7 @@ module _ {Q : Float → Type 0} (made : Rounded Q) where
         go (going s) p = p
         go (stopped k s) p = lu-right n (lu-factor n a b) (way-keeps (lu-column n) Second (column-right n) 0 n (a, b) c)
 
-    qt-right : (m n : ℕ) (a bs b : List Float) → Right b → Right (qt m n a bs n b)
+    qt-right : (m n : ℕ) (a bs b : List Float) → Right b → Right (qt m n a bs b)
     unfolding qt qt-column
     qt-right m n a bs b c = loop-keeps Right 0 n _ b (λ j l p. loop-keeps Right j m _ l (λ i x. set-column x i _ (made .rest-of _ _)) p) c
 
@@ -99,5 +99,5 @@ module _ {Q : Float → Type 0} (made : Rounded Q) where
   unfolding least
   least-column m n a b vs h c q =
       let f = after m n a n in
-      let x = qt m n f (betas m n a) n b in
+      let x = qt m n f (betas m n a) b in
       least-values m n (back n f x) vs h (back-right m n f x (qt-right m m n f (betas m n a) b c)) q

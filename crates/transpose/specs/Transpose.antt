@@ -15,9 +15,9 @@ qt-column m n a beta j b =
     let w = along j m v (at b) in
     loop j m (λ i l. set l i (less (at l i) (times (times beta w) (v i)))) b
 
--- the first k columns in turn
-unfoldable pub qt : ℕ → ℕ → List Float → List Float → ℕ → List Float → List Float
-qt m n a betas k b = loop 0 k (λ j. qt-column m n a (at betas j) j) b
+-- all columns in turn
+unfoldable pub qt : ℕ → ℕ → List Float → List Float → List Float → List Float
+qt m n a betas b = loop 0 n (λ j. qt-column m n a (at betas j) j) b
 
 -- a matrix of m by n that is no wider than tall, and a right-hand side behind it
 pub record Packed (m n : ℕ) (s : List Float) : Type 0 where

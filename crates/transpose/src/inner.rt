@@ -49,7 +49,7 @@ fn turn_column(s: &mut [f64], m: usize, n: usize, j: usize, beta: f64)
 // Q-transpose of the right-hand side behind the matrix.
 pub fn apply_qt(s: &mut [f64], betas: &[f64], m: usize, n: usize)
     requires { ⌜ (Packed m n (now s)) × (length (now betas) ≡ n) ⌝ }
-    ensures { λ _. ⌜ now (s .exit) ≡ take (m * n) (now (s .entry)) ++ qt m n (take (m * n) (now (s .entry))) (now (betas .entry)) n (drop (m * n) (now (s .entry))) ⌝ }
+    ensures { λ _. ⌜ now (s .exit) ≡ take (m * n) (now (s .entry)) ++ qt m n (take (m * n) (now (s .entry))) (now (betas .entry)) (drop (m * n) (now (s .entry))) ⌝ }
 {
     for j in 0..n {
         let beta = betas[j];

@@ -8,20 +8,19 @@ use lib.Seq.{length-take-le}
 use lib.Ieee.{Float}
 use denote.Ref.{now}
 use Rattle.steps.specs.Num.{at}
-use Rattle.steps.specs.Loops.{loop-more}
+use Rattle.steps.specs.Loops.{loop, loop-more}
 use Rattle.steps.specs.Glue.{seen, glued-none}
 use Rattle.transpose.specs.Transpose.{qt-column, qt}
 use Rattle.transpose.proofs.inner.apply_qt.Statement.{statement}
 use Rattle.transpose.proofs.inner.apply_qt.Tie as tie
 
 abbrev Inv-loop : tie.InvT-loop
-Inv-loop s₀ betas m n j₀ s j = (j ≤ n) × (length s ≡ length s₀) × (s ≡ take (m * n) s₀ ++ qt m n (take (m * n) s₀) betas j (drop (m * n) s₀))
+Inv-loop s₀ betas m n j₀ s j = (j ≤ n) × (length s ≡ length s₀) × (s ≡ take (m * n) s₀ ++ loop 0 j (λ i. turn m n (take (m * n) s₀) (at betas i) i) (drop (m * n) s₀))
 
 abbrev μ-loop : tie.MeasureT-loop
 μ-loop s₀ betas m n j₀ s j = n - j
 
 loop-holds : tie.Need-loop-holds Inv-loop μ-loop
-unfolding qt
 loop-holds c = let args = c .before .before .args in (omega arith, refl, glued-none (now (args .s)) (args .m * args .n) _ _)
 
 mul-beta : tie.Need-mul-beta Inv-loop μ-loop
@@ -45,7 +44,6 @@ loop-less : tie.Need-loop-less Inv-loop μ-loop
 loop-less c = omega (arith, c .before .before .before .before .before)
 
 loop-again : tie.Need-loop-again Inv-loop μ-loop
-unfolding qt
 loop-again c =
     let test = c .before .before .before .before .before in
     let now-at = test .before .loop in
@@ -66,6 +64,7 @@ same-length : tie.Need-same-length Inv-loop μ-loop
 same-length c = c .before .loop .inv .1
 
 returns : tie.Need-returns Inv-loop μ-loop
+unfolding qt
 returns c =
     let end = c .before .loop in
     let all : end .j ≡ c .before .before .before .before .args .n = omega arith in
