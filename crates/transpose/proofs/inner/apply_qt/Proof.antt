@@ -15,7 +15,7 @@ use Rattle.transpose.proofs.inner.apply_qt.Statement.{statement}
 use Rattle.transpose.proofs.inner.apply_qt.Tie as tie
 
 abbrev Inv-loop : tie.InvT-loop
-Inv-loop s₀ betas m n j₀ s j = (j ≤ n) × (length s ≡ length s₀) × (s ≡ take (m * n) s₀ ++ loop 0 j (λ i. turn m n (take (m * n) s₀) (at betas i) i) (drop (m * n) s₀))
+Inv-loop s₀ betas m n j₀ s j = (j ≤ n) × (length s ≡ length s₀) × (s ≡ take (m * n) s₀ ++ loop 0 j (λ i. qt-column m n (take (m * n) s₀) (at betas i) i) (drop (m * n) s₀))
 
 abbrev μ-loop : tie.MeasureT-loop
 μ-loop s₀ betas m n j₀ s j = n - j
