@@ -11,7 +11,7 @@ use crate::COLS;
 use crate::ROWS;
 use reader::inner::rows;
 use rule::Task;
-use strlsq::inner::fit_ready;
+use strlsq::inner::fit_in;
 use writer::inner::write_fit;
 
 // The largest theta, and the largest workspace: that of the largest task by least squares.
@@ -32,7 +32,7 @@ fn fit_into(
         × (length (now coeffs) ≡ task .cols) × (length (now workspace) ≡ most-space) × (answer-room ≤ length (now out)) ⌝ }
     ensures { λ r. ⌜ Written 0 (fit-lines (fit-of task (now (theta .entry)) (now (target .entry)))) (now (out .entry)) (now (out .exit)) r ⌝ }
 {
-    let report = fit_ready(task, theta, target, coeffs, workspace);
+    let report = fit_in(task, theta, target, coeffs, workspace);
     write_fit(report, coeffs, out)
 }
 

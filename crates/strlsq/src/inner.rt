@@ -17,8 +17,14 @@ use rule::inner::fit_sizes;
 use rule::inner::needed;
 use slices::inner::clear;
 
-// The fit in a workspace: the rounds, the last pass, and the report of what they left.
-fn fit_in(task: Task, theta: &[f64], target: &[f64], coeffs: &mut [f64], ws: &mut [f64]) -> Report
+// The fit in a workspace that is left as it comes: the rounds, the last pass, and the report of what they left.
+pub fn fit_in(
+    task: Task,
+    theta: &[f64],
+    target: &[f64],
+    coeffs: &mut [f64],
+    ws: &mut [f64],
+) -> Report
     requires { ⌜ Ready task (now theta) (now target) (now coeffs) (now ws) ⌝ }
     ensures { λ r. ⌜ Reports (fit-of task (now (theta .entry)) (now (target .entry))) r (now (coeffs .exit)) ⌝ }
 {

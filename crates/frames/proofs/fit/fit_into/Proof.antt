@@ -5,8 +5,8 @@ use Rattle.frames.proofs.FitLaws.{ready-within, fit-written}
 use Rattle.frames.proofs.fit.fit_into.Statement.{statement}
 use Rattle.frames.proofs.fit.fit_into.Tie as tie
 
-fit-ready-requires : tie.Need-fit-ready-requires
-fit-ready-requires c κs =
+fit-in-requires : tie.Need-fit-in-requires
+fit-in-requires c κs =
     let given = c .before .before .before .before .before .before .before .pre in
     ready-within (given .0) (given .1) (given .2) (given .3)
 
@@ -26,7 +26,7 @@ returns : tie.Need-returns
 returns c =
     let at-write-fit = c .before .before in
     let after-fit = at-write-fit .before .before .before .before .before .before .before in
-    fit-written (after-fit .fit-ready .ensures .0) (at-write-fit .write-fit .ensures)
+    fit-written (after-fit .fit-in .ensures) (at-write-fit .write-fit .ensures)
 
 pub fit-into-spec : {M : Type 1} → statement M
-fit-into-spec = tie.close (tie.spec fit-ready-requires write-fit-requires same-length same-length-2 same-length-3 returns)
+fit-into-spec = tie.close (tie.spec fit-in-requires write-fit-requires same-length same-length-2 same-length-3 returns)
