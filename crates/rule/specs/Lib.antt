@@ -14,7 +14,7 @@ pub mod Endings
 pub mod Rounded
 pub mod RightSides
 pub mod Values
-pub mod Alike
+pub mod SameFit
 pub mod Made
 pub mod Promises
 pub mod Demand3
