@@ -11,7 +11,7 @@ use Rattle.refusal.specs.declared.Refusal.the-variants.{ManyColumns, ManyRows, 
 use Rattle.decomp.specs.Calls.{qr-sizes}
 
 -- m rows and n columns, no more columns than rows, and outputs of their lengths
-pub record Tall (m n matrix «data» betas : ℕ) : Type 0 where
+pub record QrSized (m n matrix «data» betas : ℕ) : Type 0 where
   pub few-columns : n ≤ 64
   pub few-rows : m ≤ 4160
   pub cells : matrix ≡ m * n
@@ -19,7 +19,7 @@ pub record Tall (m n matrix «data» betas : ℕ) : Type 0 where
   pub scales : betas ≡ n
   pub tall : n ≤ m
 
-pub qr-fits : {m n matrix «data» betas space : ℕ} {sizes : Answer} → sizes ≡ qr-sizes m n matrix «data» betas space → sizes ≡ Done → Tall m n matrix «data» betas × (m ≤ space)
+pub qr-fits : {m n matrix «data» betas space : ℕ} {sizes : Answer} → sizes ≡ qr-sizes m n matrix «data» betas space → sizes ≡ Done → QrSized m n matrix «data» betas × (m ≤ space)
 unfolding qr-sizes
 qr-fits {m} {n} {matrix} {«data»} {betas} {space} judged e =
     let few = not-refused (ltb 64 n) ManyColumns _ (sym judged ∙ e) in

@@ -6,7 +6,7 @@ ghost use Rattle.steps.specs.Space.{cleared};
 ghost use Rattle.householder.specs.Qr.{after};
 ghost use Rattle.householder.specs.Qr as Q;
 ghost use Rattle.decomp.specs.Calls.{QrCall, qr-sizes};
-ghost use Rattle.decomp.specs.Sizes.{Tall};
+ghost use Rattle.decomp.specs.Sizes.{QrSized};
 use householder::inner::factor;
 use refusal::Answer;
 use refusal::Refusal;
@@ -50,7 +50,7 @@ fn qr_ready(
     betas: &mut [f64],
     workspace: &mut [f64],
 )
-    requires { ⌜ (Tall m n (length (now a)) (length (now «data»)) (length (now betas))) × (m ≤ length (now workspace)) ⌝ }
+    requires { ⌜ (QrSized m n (length (now a)) (length (now «data»)) (length (now betas))) × (m ≤ length (now workspace)) ⌝ }
     ensures { λ _. ⌜ (now («data» .exit) ≡ after m n (now (a .entry)) n) × (now (betas .exit) ≡ Q.betas m n (now (a .entry))) × (now (workspace .exit) ≡ cleared m (now (workspace .entry))) ⌝ }
 {
     copy(a, data);

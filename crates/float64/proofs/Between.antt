@@ -6,7 +6,7 @@ use native.Mathlib.Nat.{le-of-eq, lt-of-lt-of-le, lt-of-le-of-lt, mul-comm, mul-
 use native.Mathlib.Omega.{arith}
 use lib.Arith.{lt-of-le-ne}
 use lib.Pow.{pow-pos}
-use Rattle.float64.specs.Parts.{Whole}
+use Rattle.float64.specs.Parts.{WholePart}
 use Rattle.float64.specs.Rule.{unitsOf, Nearest}
 use Rattle.float64.proofs.Digits.{q-low, half-low, half-high, twice, scaled, no-root}
 use Rattle.float64.proofs.Order.{units-normal}
@@ -37,7 +37,7 @@ scale-lt x y c C h = lt-of-le-of-lt (le-of-eq (mul-mul-mul-comm x c x c)) (lt-of
 scale-gt : (x y c : ℕ) → 0 < c → 4 * y < x * x → 4 * (y * (c * c)) < x * c * (x * c)
 scale-gt x y c C h = lt-of-le-of-lt (le-of-eq (sym (mul-assoc 4 y (c * c)))) (lt-of-lt-of-le (mul-lt-mul-of-pos-right h (mul-pos C C)) (le-of-eq (sym (mul-mul-mul-comm x c x c))))
 
-module _ (n s h q : ℕ) (e : n * 2 ^ 52 ≡ s * 2 ^ h * 2 ^ h) (S : 2 ^ 52 ≤ s) (S' : s + 2 ≤ 2 ^ 54) (W : Whole (s * 2 ^ 54) q) where
+module _ (n s h q : ℕ) (e : n * 2 ^ 52 ≡ s * 2 ^ h * 2 ^ h) (S : 2 ^ 52 ≤ s) (S' : s + 2 ≤ 2 ^ 54) (W : WholePart (s * 2 ^ 54) q) where
   abbrev c : ℕ
   c = 2 ^ (h + 484)
 

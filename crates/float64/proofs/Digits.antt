@@ -7,15 +7,15 @@ use native.Mathlib.Omega.{arith}
 use lib.Dec.{lit≤}
 use lib.Arith.{lt-of-le-ne}
 use lib.Pow.{pow-add, pow-mono, shl-lt}
-use Rattle.float64.specs.Parts.{Whole}
+use Rattle.float64.specs.Parts.{WholePart}
 use Rattle.float64.proofs.Square.{sq-next, below}
 
 -- ---- the 54 digits of q
-pub q-low : (s q : ℕ) → 2 ^ 52 ≤ s → Whole (s * 2 ^ 54) q → 2 ^ 53 ≤ q
+pub q-low : (s q : ℕ) → 2 ^ 52 ≤ s → WholePart (s * 2 ^ 54) q → 2 ^ 53 ≤ q
 q-low s q l w = below (s * 2 ^ 54) q (2 ^ 53) (w .hi) (omega arith)
 
 -- and q is not all ones
-pub q-high : (s q : ℕ) → s + 2 ≤ 2 ^ 54 → Whole (s * 2 ^ 54) q → q + 2 ≤ 2 ^ 54
+pub q-high : (s q : ℕ) → s + 2 ≤ 2 ^ 54 → WholePart (s * 2 ^ 54) q → q + 2 ≤ 2 ^ 54
 q-high s q h w = le-of-suc-le-suc (lt-of-not-le (λ (g : suc (2 ^ 54) ≤ q + 2).
     let j : 2 ^ 54 - 1 ≤ q = omega arith in
     let k : (2 ^ 54 - 1) * (2 ^ 54 - 1) ≤ q * q = mul-le-mul j j in
@@ -23,10 +23,10 @@ q-high s q h w = le-of-suc-le-suc (lt-of-not-le (λ (g : suc (2 ^ 54) ≤ q + 2)
     omega arith))
 
 -- so half of it, rounded up, has 53
-pub half-low : (s q : ℕ) → 2 ^ 52 ≤ s → Whole (s * 2 ^ 54) q → 2 ^ 52 ≤ (q + 1) / 2
+pub half-low : (s q : ℕ) → 2 ^ 52 ≤ s → WholePart (s * 2 ^ 54) q → 2 ^ 52 ≤ (q + 1) / 2
 half-low s q l w = omega (arith, q-low s q l w)
 
-pub half-high : (s q : ℕ) → s + 2 ≤ 2 ^ 54 → Whole (s * 2 ^ 54) q → (q + 1) / 2 < 2 ^ 53
+pub half-high : (s q : ℕ) → s + 2 ≤ 2 ^ 54 → WholePart (s * 2 ^ 54) q → (q + 1) / 2 < 2 ^ 53
 half-high s q h w = omega (arith, q-high s q h w)
 
 pub twice : (h : ℕ) → 2 ^ (485 + h) ≡ 2 * 2 ^ (h + 484)
@@ -63,7 +63,7 @@ pub no-root : (s q : ℕ) → q % 2 ≡ 1 → q * q ≡ s * 2 ^ 54 → ⊥
 no-root s q o e = omega (arith, odd-square q o)
 
 -- so w, the whole part of that root times c, is above q * c, where c has more digits than q
-pub above : (s c q w : ℕ) → 2 * q + 1 ≤ c → q % 2 ≡ 1 → Whole (s * 2 ^ 54) q → Whole (s * 2 ^ 54 * (c * c)) w → q * c < w
+pub above : (s c q w : ℕ) → 2 * q + 1 ≤ c → q % 2 ≡ 1 → WholePart (s * 2 ^ 54) q → WholePart (s * 2 ^ 54 * (c * c)) w → q * c < w
 above s c q w C o v u =
     let next : q * q < s * 2 ^ 54 = lt-of-le-ne (v .lo) (no-root s q o) in
     let some : (q * q + 1) * (c * c) ≤ s * 2 ^ 54 * (c * c) = mul-le-mul-right (c * c) (omega arith) in

@@ -10,7 +10,7 @@ use lib.Pow.{pow-add, pow-mono, shl-lt}
 use lib.Ieee.{binary64, size, ofBits, toBits}
 use lib.Ieee.Bits.{toBits-ofBits, nanBits-is}
 use lib.Ieee.Digits.{size-lt, size-le, size-reaches}
-use Rattle.float64.specs.Parts.{Whole, Widened}
+use Rattle.float64.specs.Parts.{WholePart, Widened}
 use Rattle.float64.specs.Root.{isqrt, nearestRoot}
 use Rattle.float64.specs.Rule.{unitsOf, Nearest}
 use Rattle.float64.proofs.Between.{nearest-at}
@@ -59,7 +59,7 @@ nearest-form n (g, e, W) =
     let h = e / 2 in
     let w = wide g (e % 2) (W .low) (W .high) (omega arith) in
     let q = isqrt 54 (s * 2 ^ 54) in
-    let Q : Whole (s * 2 ^ 54) q = isqrt-whole 54 (s * 2 ^ 54) (omega (arith, w .1)) in
+    let Q : WholePart (s * 2 ^ 54) q = isqrt-whole 54 (s * 2 ^ 54) (omega (arith, w .1)) in
     let k' : n * 2 ^ 52 ≡ s * 2 ^ h * 2 ^ h = sym (W .same) ∙ sym (halved g e) in
     let H : h ≤ 1048 = omega (arith, W .most) in
     let b = (485 + h) * 2 ^ 52 + (q + 1) / 2 in

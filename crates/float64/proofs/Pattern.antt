@@ -9,7 +9,7 @@ use lib.Pow.{pow-add, pow-pos, pow-mono, shl-lt}
 use lib.Ieee.{Float, binary64, units, size, fits, ofBits}
 use lib.Ieee.Exact.{HasValue, units-val}
 use lib.Ieee.Fits.{round-fits}
-use Rattle.float64.specs.Parts.{Whole}
+use Rattle.float64.specs.Parts.{WholePart}
 use Rattle.float64.specs.Root.{isqrt, nearestRoot}
 use Rattle.float64.proofs.Digits.{q-low, q-high, half-low, half-high, twice, scaled, in-reach, above, sides}
 use Rattle.float64.proofs.Rounding.{size-at, round-at, read-back}
@@ -19,7 +19,7 @@ pub nearest-fits : (n : ℕ) → T (fits binary64 (nearestRoot n))
 unfolding nearestRoot
 nearest-fits n = round-fits binary64 false (isqrt 1586 (n * 2 ^ 1074)) (2 ^ 1074)
 
-module _ (n s h q : ℕ) (e : n * 2 ^ 52 ≡ s * 2 ^ h * 2 ^ h) (S : 2 ^ 52 ≤ s) (S' : s + 2 ≤ 2 ^ 54) (H : h ≤ 1048) (W : Whole (s * 2 ^ 54) q) where
+module _ (n s h q : ℕ) (e : n * 2 ^ 52 ≡ s * 2 ^ h * 2 ^ h) (S : 2 ^ 52 ≤ s) (S' : s + 2 ≤ 2 ^ 54) (H : h ≤ 1048) (W : WholePart (s * 2 ^ 54) q) where
   abbrev a : ℕ
   a = n * 2 ^ 1074
 
@@ -34,8 +34,8 @@ module _ (n s h q : ℕ) (e : n * 2 ^ 52 ≡ s * 2 ^ h * 2 ^ h) (S : 2 ^ 52 ≤ 
   m = (q + 1) / 2
 
   -- the whole part w of the root lies between q * c and (q + 1) * c
-  w-whole : Whole (s * 2 ^ 54 * (c * c)) w
-  w-whole = subst (λ (x : ℕ). Whole x w) (scaled n s h e) (isqrt-whole 1586 a (in-reach n s h e (omega arith) H))
+  w-whole : WholePart (s * 2 ^ 54 * (c * c)) w
+  w-whole = subst (λ (x : ℕ). WholePart x w) (scaled n s h e) (isqrt-whole 1586 a (in-reach n s h e (omega arith) H))
 
   lo : q * c ≤ w
   lo = whole-scale-lo (s * 2 ^ 54) c q w W w-whole

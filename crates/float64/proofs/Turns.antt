@@ -4,7 +4,7 @@ use Prim.Native.Nat.{ℕ, zero, suc, _+_, _-_, _*_, _/_, _%_, _^_, _≤_, _<_}
 use native.Mathlib.Nat.{mul-comm, mul-assoc, mul-left-comm, mul-mul-mul-comm, mul-one, le-antisymm, pow-succ'}
 use native.Mathlib.Omega.{arith}
 use lib.Pow.{pow-add, pow-mono}
-use Rattle.float64.specs.Parts.{Whole}
+use Rattle.float64.specs.Parts.{WholePart}
 use Rattle.float64.proofs.Square.{sq-next}
 
 -- after i turns q is the whole part of the root of the digits used, rem is what is left of them, and rest has the digits to come
@@ -47,7 +47,7 @@ nil s rest q rem i t h l = record {
   all = omega (arith, t .all, grown s i, sq2 q);
 }
 
-pub done : (s rest q rem i : ℕ) → Turn s rest q rem i → 54 ≤ i → Whole (s * 2 ^ 54) q
+pub done : (s rest q rem i : ℕ) → Turn s rest q rem i → 54 ≤ i → WholePart (s * 2 ^ 54) q
 done s rest q rem i t h =
     let e : s * (2 ^ 54 * 2 ^ 54) ≡ (q * q + rem) * 2 ^ 54 + rest = subst (λ (x : ℕ). s * (2 ^ x * 2 ^ x) ≡ (q * q + rem) * 2 ^ 54 + rest) (le-antisymm (t .most) h) (t .all) in
     let f : q * q + rem ≡ s * 2 ^ 54 = omega (arith, t .low) in

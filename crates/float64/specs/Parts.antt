@@ -5,14 +5,14 @@ use lib.Ieee.{binary64, ofBits}
 use Rattle.float64.specs.Root.{nearestRoot}
 
 -- r is the whole part of n's root
-pub record Whole (n r : ℕ) : Type 0 where
+pub record WholePart (n r : ℕ) : Type 0 where
   pub lo : r * r ≤ n
   pub hi : n < (r + 1) * (r + 1)
 
 -- m is half the whole part of the root of s * 2 ^ 54, a half rounded up: the nearest whole number to the root of s * 2 ^ 52
 pub record Halved (s m : ℕ) : Type 0 where
   pub q : ℕ
-  pub whole : Whole (s * 2 ^ 54) q
+  pub whole : WholePart (s * 2 ^ 54) q
   pub half : (q + 1) / 2 ≡ m
 
 -- s * 2 ^ e is n * 2 ^ 52, where s has 53 digits; n units of binary64 are never more than e allows

@@ -5,7 +5,7 @@ ghost use mathlib.Core.Path.{_≡_};
 ghost use mathlib.Core.Bool.{true};
 ghost use Prim.Native.Nat.{ℕ, _*_, _^_, _≤_, _<_};
 ghost use Rattle.float64.specs.Rule.{unitsOf};
-ghost use Rattle.float64.specs.Parts.{Whole, Halved, Widened, Rooted};
+ghost use Rattle.float64.specs.Parts.{WholePart, Halved, Widened, Rooted};
 use std::num::wrapping_sub_u64;
 
 // Digits and a scale, sig * 2 ^ exp.
@@ -28,7 +28,7 @@ fn widened(sig: u64) -> Scaled
 // The whole part of the root of s * 2 ^ 54, two digits a turn.
 fn root_digits(s: u64) -> u64
     requires { ⌜ s < 2 ^ 54 ⌝ }
-    ensures { λ r. ⌜ Whole (s * 2 ^ 54) r ⌝ }
+    ensures { λ r. ⌜ WholePart (s * 2 ^ 54) r ⌝ }
 {
     let mut rest = s;
     let mut q: u64 = 0;

@@ -10,13 +10,13 @@ use Rattle.steps.specs.Table.{tab, table, length-tab, length-table}
 use Rattle.rule.specs.Fits.{fit-of}
 use Rattle.rule.specs.Sizes.{Limited, Sized}
 use Rattle.rule.specs.declared.Task.{Task}
-use Rattle.reader.specs.Frames.{Few, Formed}
+use Rattle.reader.specs.Frames.{FewFrames, Formed}
 use Rattle.reader.specs.Rows.{row-digits, target as target-of, feature}
 use Rattle.frames.specs.Limits.{most-cols, most-rows}
 use Rattle.frames.specs.Exchange.{Accepted, fit-asked}
 
 -- within the limits the frames are few, and theta has room
-pub few-frames : {task : Task} → Limited most-cols most-rows task → Few (task .rows) (row-digits (task .cols))
+pub few-frames : {task : Task} → Limited most-cols most-rows task → FewFrames (task .rows) (row-digits (task .cols))
 few-frames l = record { frames = l .few-rows; digits = omega (arith, l .few-cols) }
 
 pub theta-room : {task : Task} → Limited most-cols most-rows task → task .rows * task .cols ≤ most-rows * most-cols

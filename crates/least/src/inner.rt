@@ -28,7 +28,8 @@ fn lessen_above(s: &mut [f64], m: usize, n: usize, j: usize)
 // Column j: its entry is divided by the diagonal, which is refused where it is small, then the entries above are updated.
 fn back_column(s: &mut [f64], m: usize, n: usize, j: usize) -> Solved
     requires { ⌜ (Packed m n (now s)) × (j < n) ⌝ }
-    ensures { λ r. ⌜ (told r (drop (m * n) (now (s .exit))) ≡ back-column n (take (m * n) (now (s .entry))) j (drop (m * n) (now (s .entry)))) × (take (m * n) (now (s .exit)) ≡ take (m * n) (now (s .entry))) ⌝ }
+    ensures { λ r. ⌜ (told r (drop (m * n) (now (s .exit))) ≡ back-column n (take (m * n) (now (s .entry))) j (drop (m * n) (now (s .entry))))
+        × (take (m * n) (now (s .exit)) ≡ take (m * n) (now (s .entry))) ⌝ }
 {
     let mn = m * n;
     let r = cell(s, n, j, j);

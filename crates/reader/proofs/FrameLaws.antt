@@ -11,10 +11,10 @@ use lib.ListN.{length}
 use Rattle.steps.specs.Table.{row-fits}
 use Rattle.hex.specs.All.{all, all-at, all-not, all-end, and-both}
 use Rattle.hex.specs.Hex.{all-hex, Digits}
-use Rattle.reader.specs.Frames.{frame-at, frame-formed, frames-formed, Few, Formed}
+use Rattle.reader.specs.Frames.{frame-at, frame-formed, frames-formed, FewFrames, Formed}
 
 -- a frame begins within the longest input
-pub frame-most : {k width : ℕ} → Few k width → k * (width + 1) ≤ 128 * 2049
+pub frame-most : {k width : ℕ} → FewFrames k width → k * (width + 1) ≤ 128 * 2049
 frame-most {k} {width} f = let w : width + 1 ≤ 2049 = omega (arith, f .digits) in mul-le-mul (f .frames) w
 
 -- a frame ends before the next one begins

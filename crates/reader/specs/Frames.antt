@@ -22,11 +22,11 @@ unfoldable pub frames-formed : List ℕ → ℕ → ℕ → Bool
 frames-formed s count width = eqb (length s) (frame-at width count) && all (frame-formed s width) count
 
 -- no more frames, and none wider, than any input has
-pub record Few (count width : ℕ) : Type 0 where
+pub record FewFrames (count width : ℕ) : Type 0 where
   pub frames : count ≤ 128
   pub digits : width ≤ 2048
 
 -- an input with so many well formed frames
 pub record Formed (s : List ℕ) (count width : ℕ) : Type 0 where
-  pub few : Few count width
+  pub few : FewFrames count width
   pub formed : frames-formed s count width ≡ true

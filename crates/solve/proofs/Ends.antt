@@ -16,7 +16,7 @@ use Rattle.refusal.specs.declared.Solved.{Solved}
 use Rattle.refusal.specs.declared.Solved.the-variants as S
 use Rattle.normal.specs.Normal.{normal}
 use Rattle.least.specs.Least.{values, least}
-use Rattle.solve.specs.Calls.{square-sizes, SquareCall, normal-sizes, NormalCall, least-need, least-sizes, Solves, LeastCall}
+use Rattle.solve.specs.Calls.{square-sizes, SquareCall, normal-sizes, NormalCall, least-need, least-sizes, LeastLeft, LeastCall}
 
 module _ {why : Refusal} {solve : Way (List Float × List Float)} {a b : List Float} {n : ℕ} {sizes : Answer} (judged : sizes ≡ square-sizes n (length a) (length b)) where
   pub square-refused : {w : Refusal} → sizes ≡ Refused w → SquareCall why solve a b n a b sizes
@@ -49,11 +49,11 @@ module _ {a b : List Float} {n : ℕ} {w : List Float} {sizes : Answer} (judged 
 
 module _ (n : ℕ) {x : Solution} {o : List Float} where
   -- least squares that is refused leaves the output as it was
-  pub least-stops : (s : Solved) {c : ℕ} (y : List Float) → s ≡ S.Refused c → values n (told s y) ≡ x → Solves x o o (Refused SmallPivot)
+  pub least-stops : (s : Solved) {c : ℕ} (y : List Float) → s ≡ S.Refused c → values n (told s y) ≡ x → LeastLeft x o o (Refused SmallPivot)
   unfolding values
   least-stops s y e t = let q = rw e at t in record { answer = rw (← q); out = rw (← q) }
 
-  pub least-solves : (s : Solved) (y : List Float) {o' : List Float} → s ≡ S.Done → values n (told s y) ≡ x → o' ≡ take n y → Solves x o o' Done
+  pub least-solves : (s : Solved) (y : List Float) {o' : List Float} → s ≡ S.Done → values n (told s y) ≡ x → o' ≡ take n y → LeastLeft x o o' Done
   unfolding values
   least-solves s y e t out = let q = rw e at t in record { answer = rw (← q); out = rw (← q) out }
 
@@ -61,5 +61,5 @@ module _ {a b : List Float} {m n : ℕ} {o w : List Float} {sizes : Answer} (jud
   pub least-refused : {x : Refusal} → sizes ≡ Refused x → LeastCall a b m n o o w w sizes
   least-refused e = record { sizes = sizes; judged = judged; answer = rw e; out = rw e; space = rw e }
 
-  pub least-solved : {o' w' : List Float} {r : Answer} → sizes ≡ Done → Solves (least m n a b) o o' r → w' ≡ cleared (least-need m n) w → LeastCall a b m n o o' w w' r
+  pub least-solved : {o' w' : List Float} {r : Answer} → sizes ≡ Done → LeastLeft (least m n a b) o o' r → w' ≡ cleared (least-need m n) w → LeastCall a b m n o o' w w' r
   least-solved e q k = record { sizes = sizes; judged = judged; answer = rw e (q .answer); out = rw e (q .out); space = rw e k }

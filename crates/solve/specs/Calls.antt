@@ -84,7 +84,7 @@ least-out (solved x) old = x
 least-out (refused c) old = old
 
 -- both: r answers so, and the output becomes so
-pub record Solves (x : Solution) (o o' : List Float) (r : Answer) : Type 0 where
+pub record LeastLeft (x : Solution) (o o' : List Float) (r : Answer) : Type 0 where
   pub answer : r ≡ least-answer x
   pub out : o' ≡ least-out x o
 

@@ -32,7 +32,7 @@ normal-fits {n} {matrix} {right} {space} judged e =
     (square-fits refl (both .0), ltb-false _ _ (not-refused (ltb space (n * n)) WorkspaceShort _ (both .1) .0))
 
 -- least squares'
-pub record Tall (m n matrix right out : ℕ) : Type 0 where
+pub record LeastSized (m n matrix right out : ℕ) : Type 0 where
   pub few-columns : n ≤ 64
   pub few-rows : m ≤ 4160
   pub cells : matrix ≡ m * n
@@ -40,7 +40,7 @@ pub record Tall (m n matrix right out : ℕ) : Type 0 where
   pub values : out ≡ n
   pub tall : n ≤ m
 
-pub least-fits : {m n matrix right out space : ℕ} {sizes : Answer} → sizes ≡ least-sizes m n matrix right out space → sizes ≡ Done → Tall m n matrix right out × (least-need m n ≤ space)
+pub least-fits : {m n matrix right out space : ℕ} {sizes : Answer} → sizes ≡ least-sizes m n matrix right out space → sizes ≡ Done → LeastSized m n matrix right out × (least-need m n ≤ space)
 unfolding least-sizes
 least-fits {m} {n} {matrix} {right} {out} {space} judged e =
     let few = not-refused (ltb 64 n) ManyColumns _ (sym judged ∙ e) in

@@ -8,8 +8,8 @@ ghost use Rattle.steps.specs.Space.{cleared};
 ghost use Rattle.refusal.specs.Answers.{told};
 ghost use Rattle.normal.specs.Normal.{normal};
 ghost use Rattle.least.specs.Least.{least};
-ghost use Rattle.solve.specs.Calls.{CholeskyCall, LeastCall, LuCall, NormalCall, Solves, least-need};
-ghost use Rattle.solve.specs.Sizes.{Square, Tall};
+ghost use Rattle.solve.specs.Calls.{CholeskyCall, LeastCall, LuCall, NormalCall, LeastLeft, least-need};
+ghost use Rattle.solve.specs.Sizes.{Square, LeastSized};
 use cholesky::inner::cholesky;
 use least::inner::least_of;
 use lu::inner::lu;
@@ -67,8 +67,8 @@ pub fn solve_normal_equations(a: &[f64], b: &mut [f64], n: usize, workspace: &mu
 
 // The least squares solution of a and b into `out`, worked out in ws, of m * n + m numbers.
 fn least_into(a: &[f64], b: &[f64], m: usize, n: usize, out: &mut [f64], ws: &mut [f64]) -> Answer
-    requires { ⌜ (Tall m n (length (now a)) (length (now b)) (length (now out))) × (length (now ws) ≡ m * n + m) ⌝ }
-    ensures { λ r. ⌜ Solves (least m n (now (a .entry)) (now (b .entry))) (now (out .entry)) (now (out .exit)) r ⌝ }
+    requires { ⌜ (LeastSized m n (length (now a)) (length (now b)) (length (now out))) × (length (now ws) ≡ m * n + m) ⌝ }
+    ensures { λ r. ⌜ LeastLeft (least m n (now (a .entry)) (now (b .entry))) (now (out .entry)) (now (out .exit)) r ⌝ }
 {
     let mn = a.len();
     let Solved::Done = least_of(a, b, ws, m, n) else {
@@ -88,8 +88,8 @@ fn least_ready(
     out: &mut [f64],
     workspace: &mut [f64],
 ) -> Answer
-    requires { ⌜ (Tall m n (length (now a)) (length (now b)) (length (now out))) × (least-need m n ≤ length (now workspace)) ⌝ }
-    ensures { λ r. ⌜ (Solves (least m n (now (a .entry)) (now (b .entry))) (now (out .entry)) (now (out .exit)) r) × (now (workspace .exit) ≡ cleared (least-need m n) (now (workspace .entry))) ⌝ }
+    requires { ⌜ (LeastSized m n (length (now a)) (length (now b)) (length (now out))) × (least-need m n ≤ length (now workspace)) ⌝ }
+    ensures { λ r. ⌜ (LeastLeft (least m n (now (a .entry)) (now (b .entry))) (now (out .entry)) (now (out .exit)) r) × (now (workspace .exit) ≡ cleared (least-need m n) (now (workspace .entry))) ⌝ }
 {
     let end = a.len() + m;
     let answer = least_into(a, b, m, n, out, &mut workspace[0..end]);

@@ -23,7 +23,8 @@ fn add_row(
     sums: &mut [f64],
 )
     requires { ⌜ Listed «n_rows» «n_cols» k (now terms) (now theta) × (i < «n_rows») × (lo .0 ≤ k) × (k ≤ length (now sums)) ⌝ }
-    ensures { λ _. ⌜ Wrote (λ q. q) (lo .0) k (λ q. plus (at (now (sums .entry)) q) (times x (listed (now (terms .entry)) (cell-of «n_cols» (now (theta .entry))) i q))) (now (sums .entry)) (now (sums .exit)) ⌝ }
+    ensures { λ _. ⌜ Wrote (λ q. q) (lo .0) k (λ q. plus (at (now (sums .entry)) q) (times x (listed (now (terms .entry)) (cell-of «n_cols» (now (theta .entry))) i q)))
+        (now (sums .entry)) (now (sums .exit)) ⌝ }
 {
     for q in lo.0..k {
         sums[q] = sums[q] + x * at_place(theta, n_rows, n_cols, terms, k, i, Col(q));

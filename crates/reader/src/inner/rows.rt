@@ -3,7 +3,7 @@ ghost use mathlib.Core.Path.{_≡_};
 ghost use Prim.Native.Nat.{_*_, _≤_, _<_};
 ghost use lib.ListN.{length, take};
 ghost use Rattle.steps.specs.Table.{tab, table};
-ghost use Rattle.reader.specs.Frames.{Few, Formed};
+ghost use Rattle.reader.specs.Frames.{FewFrames, Formed};
 ghost use Rattle.reader.specs.Rows.{row-digits, row-at, target as target-of, feature};
 use crate::inner::frames::frame_at;
 
@@ -17,7 +17,7 @@ pub fn row_digits(cols: usize) -> usize
 
 // Where the frame of row r begins.
 fn row_at(cols: usize, r: usize) -> usize
-    requires { ⌜ Few r (row-digits cols) ⌝ }
+    requires { ⌜ FewFrames r (row-digits cols) ⌝ }
     ensures { λ a. ⌜ a ≡ row-at cols r ⌝ }
 {
     frame_at(row_digits(cols), r)
