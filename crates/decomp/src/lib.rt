@@ -1,17 +1,11 @@
 // Householder QR: the public call.
+mod ready;
+
 ghost use mathlib.Core.Path.{_≡_};
-ghost use Prim.Native.Nat.{_≤_};
-ghost use lib.ListN.{length};
-ghost use Rattle.steps.specs.Space.{cleared};
-ghost use Rattle.householder.specs.Qr.{after};
-ghost use Rattle.householder.specs.Qr as Q;
 ghost use Rattle.decomp.specs.Calls.{QrCall, qr-sizes};
-ghost use Rattle.decomp.specs.Sizes.{QrSized};
-use householder::inner::factor;
+use crate::ready::qr_ready;
 use refusal::Answer;
 use refusal::Refusal;
-use slices::inner::clear;
-use slices::inner::copy;
 
 // The first refusal that applies to m rows, n columns and these lengths.
 fn qr_sizes(m: usize, n: usize, matrix: usize, data: usize, betas: usize, space: usize) -> Answer
@@ -39,23 +33,6 @@ fn qr_sizes(m: usize, n: usize, matrix: usize, data: usize, betas: usize, space:
         return Answer::Refused(Refusal::WorkspaceShort);
     }
     Answer::Done
-}
-
-// QR of sizes that nothing refuses.
-fn qr_ready(
-    a: &[f64],
-    m: usize,
-    n: usize,
-    data: &mut [f64],
-    betas: &mut [f64],
-    workspace: &mut [f64],
-)
-    requires { ⌜ (QrSized m n (length (now a)) (length (now «data»)) (length (now betas))) × (m ≤ length (now workspace)) ⌝ }
-    ensures { λ _. ⌜ (now («data» .exit) ≡ after m n (now (a .entry)) n) × (now (betas .exit) ≡ Q.betas m n (now (a .entry))) × (now (workspace .exit) ≡ cleared m (now (workspace .entry))) ⌝ }
-{
-    copy(a, data);
-    factor(data, betas, m, n);
-    clear(workspace, m);
 }
 
 // QR of the m by n matrix `a` into `data` and `betas`; the workspace has at least m numbers.

@@ -1,7 +1,7 @@
 -- `qr_ready` meets its contract: the factor of a copy.
 use borrow.Author.Needs.{needs}
-use Rattle.decomp.proofs.qr_ready.Statement.{statement}
-use Rattle.decomp.proofs.qr_ready.Tie as tie
+use Rattle.decomp.proofs.ready.qr_ready.Statement.{statement}
+use Rattle.decomp.proofs.ready.qr_ready.Tie as tie
 
 copy-requires : tie.Need-copy-requires
 copy-requires c κs = search needs

@@ -6,8 +6,8 @@ use lib.ListN.{length}
 use denote.Ref.{now}
 use borrow.Author.Needs.{needs}
 use Rattle.solve.proofs.Ends.{least-stops, least-solves}
-use Rattle.solve.proofs.least_into.Statement.{statement}
-use Rattle.solve.proofs.least_into.Tie as tie
+use Rattle.solve.proofs.ready.least_into.Statement.{statement}
+use Rattle.solve.proofs.ready.least_into.Tie as tie
 
 least-of-requires : tie.Need-least-of-requires
 least-of-requires c κs = search needs

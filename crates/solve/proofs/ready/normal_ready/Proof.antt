@@ -6,8 +6,8 @@ use lib.ListN.{length}
 use denote.Ref.{now}
 use borrow.Author.Needs.{needs}
 use Rattle.steps.specs.Space.{withPart, cleared, cleared-head}
-use Rattle.solve.proofs.normal_ready.Statement.{statement}
-use Rattle.solve.proofs.normal_ready.Tie as tie
+use Rattle.solve.proofs.ready.normal_ready.Statement.{statement}
+use Rattle.solve.proofs.ready.normal_ready.Tie as tie
 
 sub-normal-equations : tie.Need-sub-normal-equations
 sub-normal-equations c = search needs

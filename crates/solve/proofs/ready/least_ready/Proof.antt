@@ -7,8 +7,8 @@ use denote.Ref.{now}
 use borrow.Author.Needs.{needs}
 use Rattle.steps.specs.Space.{withPart, cleared-head}
 use Rattle.solve.specs.Calls.{least-need}
-use Rattle.solve.proofs.least_ready.Statement.{statement}
-use Rattle.solve.proofs.least_ready.Tie as tie
+use Rattle.solve.proofs.ready.least_ready.Statement.{statement}
+use Rattle.solve.proofs.ready.least_ready.Tie as tie
 
 add-end : tie.Need-add-end
 add-end c = search needs
