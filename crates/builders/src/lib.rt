@@ -4,6 +4,7 @@ mod sizes;
 ghost use Rattle.sums.specs.Products.{ridge};
 ghost use Rattle.builders.specs.Calls.{JtjCall, JtrCall};
 use refusal::Answer;
+use slices::inner::few;
 use sums::inner::jtj_of;
 use sums::inner::jtr_of;
 use support::Support;
@@ -16,7 +17,8 @@ pub fn jtj(jac: &[f64], n_rows: usize, n_params: usize, lambda: f64, out: &mut [
     let Answer::Done = sizes else {
         return sizes;
     };
-    jtj_of(jac, n_rows, n_params, Support::full(n_params), lambda, out);
+    let n_cols = few(n_params);
+    jtj_of(jac, n_rows, n_cols, Support::full(n_params), lambda, out);
     Answer::Done
 }
 

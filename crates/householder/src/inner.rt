@@ -9,6 +9,7 @@ ghost use Rattle.householder.specs.Qr.{sign, reflect, column, after, bet
 ghost use Rattle.householder.specs.Steps.{Shape, Whole, Sums};
 use float64::sqrt;
 use slices::inner::cell;
+use slices::inner::few;
 use slices::inner::put;
 use transpose::inner::led_at;
 
@@ -118,14 +119,6 @@ fn each_column(a: &mut [f64], b: &mut [f64], m: usize, n: usize)
         let beta = qr_column(a, m, n, j);
         b[j] = beta;
     }
-}
-
-// A remainder that changes nothing, and that tells the compiler how few columns there are: it makes quicker loops of them.
-fn few(n: usize) -> usize
-    requires { ⌜ n ≤ 64 ⌝ }
-    ensures { λ r. ⌜ r ≡ n ⌝ }
-{
-    n % 128
 }
 
 // The factor, its columns packed, and their betas.

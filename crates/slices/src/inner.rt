@@ -6,6 +6,14 @@ ghost use Rattle.steps.specs.Num.{times, at, cell};
 ghost use Rattle.steps.specs.Sums.{less-sum};
 ghost use Rattle.steps.specs.Space.{cleared, part, withPart, swapped};
 
+// A count of columns as it is, with a test that tells the compiler how few they are: it makes quicker loops of them.
+pub fn few(n: usize) -> usize
+    requires { ⌜ n ≤ 64 ⌝ }
+    ensures { λ r. ⌜ r ≡ n ⌝ }
+{
+    if n > 64 { 64 } else { n }
+}
+
 // Row i, column j of a matrix of n columns.
 pub fn cell(a: &[f64], n: usize, i: usize, j: usize) -> f64
     requires { ⌜ i * n + j < length (now a) ⌝ }

@@ -9,6 +9,7 @@ use normal::inner::normal_equations_packed;
 use refusal::Solved;
 use rule::Solver;
 use rule::Task;
+use slices::inner::few;
 use sums::inner::jtj_of;
 use sums::inner::jtr_of;
 use support::Support;
@@ -26,13 +27,14 @@ pub fn solve_normal(
     ensures { λ r. ⌜ gave r (now (b .exit)) ≡ problem-of task (now (theta .entry)) (now (target .entry)) .solve (support .0) ⌝ }
 {
     let setup = task.setup;
+    let n_cols = few(task.cols);
     let n_active = b.len();
     let e = n_active * n_active;
     let f = 2 * e;
     jtj_of(
         theta,
         task.rows,
-        task.cols,
+        n_cols,
         support,
         setup.lambda,
         &mut ws[0..e],
