@@ -8,18 +8,18 @@ use Rattle.fitbench.proofs.main.Statement.{statement}
 use Rattle.fitbench.proofs.main.Tie as tie
 
 -- as many bytes came as the pattern binds
-whole-came : (c : tie.After-n) → Counts (c .n .given .0 .0) (c .before .before .before .read-whole .last .0)
-whole-came c = came-whole _ _ _ (c .n .given .1) (c .before .before .before .read-whole .ensures)
+whole-came : (c : tie.After-n) → Counts (c .n .given .0 .0) (c .before .before .before .read-input .last .0)
+whole-came c = came-whole _ _ _ (c .n .given .1) (c .before .before .before .read-input .ensures)
 
 -- the answer stands where `respond` wrote it
 written : (c : tie.After-respond) → Counts (c .respond .result) (c .respond .last .1 .0)
 written c = counts _ _ (respond-fits _ _ _ _ (c .respond .ensures))
 
-slice-aggregate-read-whole : tie.Need-slice-aggregate-read-whole
-slice-aggregate-read-whole c = search needs
+slice-aggregate-read-input : tie.Need-slice-aggregate-read-input
+slice-aggregate-read-input c = search needs
 
-read-whole-requires : tie.Need-read-whole-requires
-read-whole-requires c κs = search needs
+read-input-requires : tie.Need-read-input-requires
+read-input-requires c κs = search needs
 
 enum-known-n : tie.Need-enum-known-n
 enum-known-n c = search needs
@@ -53,5 +53,5 @@ returns-2 c = search needs
 
 pub main-spec : {M : Type 1} → statement M
 main-spec =
-    tie.close (tie.spec slice-aggregate-read-whole read-whole-requires enum-known-n enum-told returns array-share-prefix-room slice-aggregate-respond
+    tie.close (tie.spec slice-aggregate-read-input read-input-requires enum-known-n enum-told returns array-share-prefix-room slice-aggregate-respond
     respond-requires array-share-prefix-answer slice-aggregate-write-all write-all-requires returns-2)
