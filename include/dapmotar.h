@@ -63,8 +63,8 @@ enum {
     DAPMOTAR_STOP_FIRST_REFUSED = 1, /* the first solve was refused: zeros */
     DAPMOTAR_STOP_EMPTY = 2,         /* no term was kept: zeros */
     DAPMOTAR_STOP_REFIT_REFUSED = 3, /* a refit was refused: zeros */
-    DAPMOTAR_STOP_SETTLED = 4,       /* a look kept the terms of the last refit */
-    DAPMOTAR_STOP_OUT_OF_ROUNDS = 5  /* max_iter rounds are used up; only here a coefficient can be NaN */
+    DAPMOTAR_STOP_SETTLED = 4,       /* a look, or the last one after max_iter rounds, kept the terms of the last refit */
+    DAPMOTAR_STOP_OUT_OF_ROUNDS = 5  /* max_iter rounds are used up, and it has not settled; only here a coefficient can be NaN */
 };
 
 /* The square root, rounded to nearest. Zeros and +infinity give themselves; NaN and numbers below zero that one NaN. */

@@ -86,7 +86,7 @@ pub fn fitted_by(p: &Problem, normal: Published, qr: Published) -> Vec<f64> {
     )
 }
 
-/// The fit by document 01's rule.
+/// The fit by the rule.
 fn restated(p: &Problem) -> Fit {
     let (stop, refits, mut coeffs) = rounds(p);
     for c in &mut coeffs {
@@ -132,7 +132,15 @@ fn rounds(p: &Problem) -> (Stop, u64, Vec<f64>) {
             coeffs[term_idx] = values[col];
         }
     }
-    (Stop::OutOfRounds, refits, coeffs)
+    (last_look(p, refits, last_refitted, &coeffs), refits, coeffs)
+}
+
+/// The rounds are used up: after at least one refit one more look, and the last refitted support is Settled.
+fn last_look(p: &Problem, refits: u64, last_refitted: u64, coeffs: &[f64]) -> Stop {
+    if refits > 0 && support_of(coeffs, p.setup.threshold) == last_refitted {
+        return Stop::Settled;
+    }
+    Stop::OutOfRounds
 }
 
 /// Every term at or above the threshold in magnitude, one bit each; a NaN never is.

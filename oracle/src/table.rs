@@ -97,7 +97,7 @@ fn fits() -> Vec<Line> {
     vec![
         case("F1", f1(0.5, 10), &[3.0, 0.0], Settled, 1, 1),
         case("F2", f1(0.5, 0), &[3.0, 0.0], OutOfRounds, 0, 1),
-        case("F3", f1(0.5, 1), &[3.0, 0.0], OutOfRounds, 1, 1),
+        case("F3", f1(0.5, 1), &[3.0, 0.0], Settled, 1, 1),
         case("F4", f1(4.0, 10), &[0.0, 0.0], Empty, 0, 0),
         case("F5", one(0.0, 1.0, 0.0, 0.5, 1), &[0.0], FirstRefused, 0, 0),
         case("F6", one(1.0, 0.5, 0.0, 0.5, 2), &[0.5], Settled, 1, 1),

@@ -23,9 +23,9 @@ pub enum Stop {
     Empty = 2,
     /// A refit was refused: zeros.
     RefitRefused = 3,
-    /// A look kept the terms of the last refit.
+    /// A look, or the last one when the rounds were used up, kept the terms of the last refit.
     Settled = 4,
-    /// The rounds were used up. Only here a coefficient can be NaN.
+    /// The rounds were used up, and it has not settled. Only here a coefficient can be NaN.
     OutOfRounds = 5,
 }
 

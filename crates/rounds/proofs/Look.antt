@@ -35,6 +35,12 @@ tested-no w v u e q t z = eqb-false w v (sym e ∙ t) (z ∙ sym q)
 pub support-fits : (f : ℕ → Bool) (w n : ℕ) (cs : List Float) → w ≡ word f (length cs) → length cs ≡ n → w < 2 ^ n
 support-fits f w n cs e l = rw (e, l) (word-lt f n)
 
+-- what a look collects is the support of the rule
+pub support-found : (task : Task) (theta target cs : List Float) → length cs ≡ task .cols → (w : ℕ) → w ≡ word (λ j. keeps (task .setup) j (at cs j)) (length cs)
+    → w ≡ support (problem-of task theta target) cs
+unfolding support problem
+support-found task theta target cs long w s = s ∙ ap (word (λ j. keeps (task .setup) j (at cs j))) long
+
 -- a look at cs that found w
 module _ (task : Task) (theta target : List Float) (last : ℕ) (cs : List Float) (long : length cs ≡ task .cols)
     (w : Support) (s : w .0 ≡ word (λ j. keeps (task .setup) j (at cs j)) (length cs)) where
@@ -42,8 +48,7 @@ module _ (task : Task) (theta target : List Float) (last : ℕ) (cs : List Float
   P = problem-of task theta target
 
   found : w .0 ≡ support P cs
-  unfolding support problem
-  found = s ∙ ap (word (λ j. keeps (task .setup) j (at cs j))) long
+  found = support-found task theta target cs long (w .0) s
 
   looked : (past : List ℕ) → round P (going cs past) ≡ look P cs past (w .0)
   unfolding round

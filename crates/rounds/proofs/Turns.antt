@@ -8,7 +8,7 @@ use lib.ListN.{length}
 use lib.Ieee.{Float}
 use Rattle.support.specs.declared.Support.{Support}
 use Rattle.rule.specs.declared.Stop.the-variants as S
-use Rattle.rule.specs.Rule.{Problem, going, latest, support, round, rounds, finish, fit}
+use Rattle.rule.specs.Rule.{Problem, going, latest, support, round, rounds, reported, last-look, finish, fit}
 use Rattle.rule.specs.Stable.{stays}
 use Rattle.rounds.specs.declared.inner.Turn.{Turn}
 use Rattle.rounds.specs.declared.inner.Turn.the-variants as T
@@ -24,11 +24,13 @@ pub record Going (P : Problem) (r : ℕ) (cs : List Float) (last : ℕ) : Type 0
   pub count-is : r ≡ length past
 
 module _ (P : Problem) where
-  -- rounds used up
-  pub out-of-rounds : {r last m : ℕ} {cs : List Float} → Going P r cs last → r ≤ m → m ≤ r → CameTo P m S.OutOfRounds m cs
+  -- rounds used up: the last look's stop
+  pub used-up : {r last m : ℕ} {cs : List Float} → Going P r cs last → r ≤ m → m ≤ r → CameTo P m (last-look m last (support P cs)) m cs
   unfolding fit finish
-  out-of-rounds {cs = cs} g h i =
-      subst (λ (x : ℕ). CameTo P x S.OutOfRounds x cs) (le-antisymm h i) (record { refitted = g .past; ends = ap (finish P) (g .state); counts = g .count-is })
+  used-up {r = r} {last = last} {cs = cs} g h i =
+      let seen : last-look (length (g .past)) (latest (g .past)) (support P cs) ≡ last-look r last (support P cs) = rw (g .last-is, g .count-is) refl in
+      subst (λ (x : ℕ). CameTo P x (last-look x last (support P cs)) x cs) (le-antisymm h i)
+      (record { refitted = g .past; ends = ap (finish P) (g .state) ∙ ap (λ t. reported P t cs (g .past)) seen; counts = g .count-is })
 
   -- one round more
   module _ {r last : ℕ} {cs x : List Float} (g : Going P r cs last) where

@@ -1,7 +1,7 @@
 // The rounds of a fit: one loop for every solver.
 ghost use mathlib.Core.Path.{_≡_};
 ghost use mathlib.Core.List.{[]};
-ghost use Rattle.rule.specs.Rule.{going, start};
+ghost use Rattle.rule.specs.Rule.{going, last-look, start};
 ghost use Rattle.rule.specs.Fits.{problem-of};
 ghost use Rattle.rule.specs.Sizes.{Ready};
 ghost use Rattle.rounds.specs.Turned.{Turned};
@@ -56,6 +56,19 @@ pub fn round(
     Turn::Again(support)
 }
 
+// The rounds are used up after this many refits, and one more look found this support.
+fn last_look(refits: usize, last: Support, support: Support) -> Stop
+    ensures { λ r. ⌜ r ≡ last-look refits (last .0) (support .0) ⌝ }
+{
+    if refits == 0 {
+        return Stop::OutOfRounds;
+    }
+    if support.same(last) {
+        return Stop::Settled;
+    }
+    Stop::OutOfRounds
+}
+
 // The rounds after a first solve that was not refused: each but the last of them refits.
 pub fn rounds(task: Task, theta: &[f64], target: &[f64], coeffs: &mut [f64], ws: &mut [f64]) -> Ran
     requires { ⌜ Ready task (now theta) (now target) (now coeffs) (now ws) × (start (problem-of task (now theta) (now target)) ≡ going (now coeffs) []) ⌝ }
@@ -89,8 +102,9 @@ pub fn rounds(task: Task, theta: &[f64], target: &[f64], coeffs: &mut [f64], ws:
             }
         }
     }
+    let stop = last_look(setup.max_iter, last, support_of(coeffs, setup));
     Ran {
-        stop: Stop::OutOfRounds,
+        stop,
         refits: setup.max_iter,
     }
 }

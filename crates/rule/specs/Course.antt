@@ -10,8 +10,8 @@ use lib.Ieee.{Float}
 use Rattle.steps.specs.Cond.{either}
 use Rattle.refusal.specs.Answers.{Solution, solved, refused}
 use Rattle.rule.specs.declared.Stop.{Stop}
-use Rattle.rule.specs.declared.Stop.the-variants.{NoData, Empty, Settled, OutOfRounds}
-use Rattle.rule.specs.Rule.{Problem, State, going, done, latest, zeros, support, refit, look, round, first, start, rounds, reported, finish, Fit, fit}
+use Rattle.rule.specs.declared.Stop.the-variants.{NoData, Empty, Settled}
+use Rattle.rule.specs.Rule.{Problem, State, going, done, latest, zeros, support, refit, look, round, first, start, rounds, reported, last-stop, finish, Fit, fit}
 
 module _ (P : Problem) where
   -- what holds of every report holds of the fit
@@ -20,7 +20,7 @@ module _ (P : Problem) where
   of-report G h r = go (rounds P r)
     where
       go : (s : State) → G (finish P s)
-      go (going cs ws) = h OutOfRounds cs ws
+      go (going cs ws) = h (last-stop P cs ws) cs ws
       go (done t cs ws) = h t cs ws
 
   -- no rows or no columns
@@ -71,9 +71,9 @@ module _ (P : Problem) where
     after-rounds zero = begun
     after-rounds (suc r) = step r (rounds P r) (after-rounds r)
 
-    -- and so of the fit: rounds used up, or done
+    -- and so of the fit: rounds used up, where the last look gives the stop, or done
     pub of-fit : (G : Fit → Type 0) (r : ℕ)
-        → ((cs : List Float) (ws : List ℕ) → I r (going cs ws) → G (reported P OutOfRounds cs ws))
+        → ((cs : List Float) (ws : List ℕ) → I r (going cs ws) → G (reported P (last-stop P cs ws) cs ws))
         → ((t : Stop) (cs : List Float) (ws : List ℕ) → I r (done t cs ws) → G (reported P t cs ws))
         → G (fit P r)
     unfolding fit finish

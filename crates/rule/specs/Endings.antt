@@ -5,8 +5,8 @@ use mathlib.Core.Bool.{Bool, false, cond, _&&_}
 use mathlib.Core.List.{List, [], _∷_}
 use Prim.Native.Nat.{ℕ, _^_, _<_}
 use borrow.Author.Tests.{lt-ltb, le-ltb}
-use lib.Dec.{ltb}
-use lib.ListN.{getD-replicate}
+use lib.Dec.{eqb, ltb}
+use lib.ListN.{length, getD-replicate}
 use lib.Ieee.{Float, nan, inf, fin, ofBits}
 use Rattle.steps.specs.Num.{+zero, at}
 use Rattle.steps.specs.Cond.{either, lt-or-ge}
@@ -16,8 +16,9 @@ use Rattle.support.specs.WordLaws.{word-lt, has-word, has-beyond}
 use Rattle.refusal.specs.Answers.{solved}
 use Rattle.rule.specs.declared.Stop.{Stop}
 use Rattle.rule.specs.declared.Stop.the-variants.{NoData, FirstRefused, Empty, RefitRefused, Settled, OutOfRounds}
-use Rattle.rule.specs.Rule.{Problem, State, going, done, latest, zeros, support, scatter, refit, first, pruned, reported, fit}
+use Rattle.rule.specs.Rule.{Problem, State, going, done, latest, zeros, support, scatter, refit, first, pruned, reported, last-look, last-stop, fit}
 use Rattle.rule.specs.Course.{Course, of-report, of-fit}
+use Rattle.rule.specs.LastLook.{LastSettles, last-settles}
 
 -- the stops that leave only zeros: no data, a refused solve, an empty support
 abbrev pub Zeroed : Stop → Type 0
@@ -27,6 +28,11 @@ Zeroed Empty = Unit {0}
 Zeroed RefitRefused = Unit {0}
 Zeroed Settled = ⊥
 Zeroed OutOfRounds = ⊥
+
+-- the last look gives none of them
+unzeroed : (refits last w : ℕ) → Zeroed (last-look refits last w) → ⊥
+unfolding last-look
+unzeroed refits last w = either (λ t. Zeroed t → ⊥) (eqb refits 0) _ _ (λ e z. z) (λ e. either (λ t. Zeroed t → ⊥) (eqb w last) _ _ (λ q z. z) (λ q z. z))
 
 +zero≢nan : +zero ≢ nan
 unfolding ofBits
@@ -74,6 +80,12 @@ module _ (P : Problem) where
   settles cs [] z e p = absurd (z e)
   settles cs (w ∷ ws) z e p = record { refitted = p; same = e }
 
+  -- and so does a last look that settles
+  settles-last : (cs : List Float) (ws : List ℕ) → LastSettles (length ws) (latest ws) (support P cs) → FromLast cs ws → Closed cs ws
+  unfolding FromLast
+  settles-last cs [] s p = absurd (s .some refl)
+  settles-last cs (w ∷ ws) s p = record { refitted = p; same = s .same }
+
   sound : Course P (λ r. Sound)
   unfolding Sound Ending FromLast first refit
   sound = record {
@@ -97,7 +109,7 @@ module _ (P : Problem) where
   -- a refused solve ends the fit with zeros, and so do no data and an empty support
   pub ends-with-zeros : (r : ℕ) → Zeroed (fit P r .stop) → fit P r .coeffs ≡ zeros (P .cols)
   unfolding reported Sound Ending
-  ends-with-zeros r = of-fit P sound (λ f. Zeroed (f .stop) → f .coeffs ≡ zeros (P .cols)) r (λ cs ws i z. absurd z) over
+  ends-with-zeros r = of-fit P sound (λ f. Zeroed (f .stop) → f .coeffs ≡ zeros (P .cols)) r (λ cs ws i z. absurd (unzeroed _ _ _ z)) over
     where
       over : (t : Stop) (cs : List Float) (ws : List ℕ) → Ending t cs ws → Zeroed t → pruned P cs ≡ zeros (P .cols)
       over NoData cs ws i z = ap (pruned P) i ∙ pruned-zeros
@@ -126,13 +138,16 @@ module _ (P : Problem) where
   -- only OutOfRounds can leave a NaN at such a term
   pub no-nan : (j : ℕ) → P .keeps j nan ≡ false → (r : ℕ) → fit P r .stop ≢ OutOfRounds → j < P .cols → at (fit P r .coeffs) j ≢ nan
   unfolding reported Sound Ending pruned
-  no-nan j h r k l = of-fit P sound (λ f. f .stop ≢ OutOfRounds → at (f .coeffs) j ≢ nan) r (λ cs ws i n. absurd (n refl)) (λ t cs ws i n. over t cs ws i) k
+  no-nan j h r k l = of-fit P sound (λ f. f .stop ≢ OutOfRounds → at (f .coeffs) j ≢ nan) r out (λ t cs ws i n. over t cs ws i) k
     where
       from : (cs : List Float) → at cs j ≢ nan → at (pruned P cs) j ≢ nan
       from cs n e = either (λ x. x ≢ nan) (P .clears j (at cs j)) +zero (at cs j) (λ t. +zero≢nan) (λ t. n) (sym (getD-tab (P .cols) _ j nan l) ∙ e)
 
       zeroed : (cs : List Float) → cs ≡ zeros (P .cols) → at (pruned P cs) j ≢ nan
       zeroed cs i = from cs (λ e. +zero≢nan (sym (ap (λ (x : List Float). at x j) i ∙ getD-replicate (P .cols) j +zero nan l) ∙ e))
+
+      out : (cs : List Float) (ws : List ℕ) → FromLast cs ws → last-stop P cs ws ≢ OutOfRounds → at (pruned P cs) j ≢ nan
+      out cs ws i n = from cs (closed-number j h cs ws (settles-last cs ws (last-settles _ _ _ n) i) l)
 
       over : (t : Stop) (cs : List Float) (ws : List ℕ) → Ending t cs ws → at (pruned P cs) j ≢ nan
       over NoData cs ws i = zeroed cs i

@@ -8,6 +8,7 @@ pub mod Calls
 pub mod Accepted
 pub mod Unique
 pub mod Course
+pub mod LastLook
 pub mod Stable
 pub mod Shrinking
 pub mod Endings

@@ -2,7 +2,8 @@
 use mathlib.Core.Path.{_≡_, refl, sym, subst}
 use mathlib.Core.Logic.{_≢_}
 use mathlib.Core.Bool.{Bool, true, false, _||_, _&&_}
-use Prim.Native.Nat.{ℕ, _*_, _^_, _≤_, _<_}
+use mathlib.Core.List.{List}
+use Prim.Native.Nat.{ℕ, suc, _*_, _^_, _≤_, _<_}
 use native.Mathlib.Omega.{arith}
 use lib.Count.{ones}
 use lib.Dec.{T, eqb, ltb, ltb→lt, eqb→eq}
@@ -13,9 +14,10 @@ use Rattle.support.specs.Word.{has}
 use Rattle.places.specs.Columns.{columns}
 use Rattle.rule.specs.declared.Setup.{Setup}
 use Rattle.rule.specs.declared.Task.{Task}
-use Rattle.rule.specs.declared.Stop.the-variants.{OutOfRounds}
-use Rattle.rule.specs.Rule.{Problem, Fit, zeros}
+use Rattle.rule.specs.declared.Stop.the-variants.{Settled, OutOfRounds}
+use Rattle.rule.specs.Rule.{Problem, Fit, done, zeros, rounds}
 use Rattle.rule.specs.Fits.{keeps, problem, problem-by, fit-by}
+use Rattle.rule.specs.LastLook.{SettlesNext, settled-next, settled-before}
 use Rattle.rule.specs.Stable.{Steady, steady, Bounded, ZeroKept, refits-few}
 use Rattle.rule.specs.Shrinking.{bounded}
 use Rattle.rule.specs.Endings.{Zeroed, ends-with-zeros, no-nan, kept-lt, kept-rule}
@@ -67,6 +69,16 @@ module _ (task : Task) (e : Entry) (t : ℕ → Float) where
   pub bounds : T (lt +zero (setup .threshold)) → Bounded P
   unfolding problem ZeroKept keeps
   bounds h = bounded P (λ j c k. absurd (above-zero (setup .threshold) h k))
+
+  -- a fit that is Settled, by the look of a round or by the last look, has settled after one round more, with the same report
+  pub settles-next : f .stop ≡ Settled → SettlesNext P (setup .«max_iter»)
+  unfolding fit-by
+  settles-next = settled-next P (setup .«max_iter»)
+
+  -- and one that would have settled in the round after the last is Settled by the last look
+  pub settles-before : {cs : List Float} {ws : List ℕ} → rounds P (suc (setup .«max_iter»)) ≡ done Settled cs ws → f .stop ≡ Settled
+  unfolding fit-by
+  settles-before = settled-before P (setup .«max_iter»)
 
   -- a refused solve ends with zeros, and so do no data and an empty support
   pub zeros-left : Zeroed (f .stop) → f .coeffs ≡ zeros (task .cols)

@@ -89,9 +89,16 @@ pruned P cs = tab (P .cols) (λ j. cond (P .clears j (at cs j)) +zero (at cs j))
 unfoldable pub reported : Problem → Stop → List Float → List ℕ → Fit
 reported P t cs past = record { coeffs = pruned P cs; stop = t; refits = length past; kept = support P (pruned P cs) }
 
--- rounds used up: OutOfRounds
+-- rounds used up after so many refits, the last over last, and one more look found w: the same is Settled, anything else, an empty one too, OutOfRounds
+unfoldable pub last-look : ℕ → ℕ → ℕ → Stop
+last-look refits last w = cond (eqb refits 0) OutOfRounds (cond (eqb w last) Settled OutOfRounds)
+
+abbrev pub last-stop : Problem → List Float → List ℕ → Stop
+last-stop P cs past = last-look (length past) (latest past) (support P cs)
+
+-- the last look gives the stop, and changes no coefficient
 unfoldable pub finish : Problem → State → Fit
-finish P (going cs past) = reported P OutOfRounds cs past
+finish P (going cs past) = reported P (last-stop P cs past) cs past
 finish P (done t cs past) = reported P t cs past
 
 -- the fit within a limit of rounds

@@ -1,9 +1,10 @@
 -- Demand 3 over the problem, and what of it holds at any threshold; `Shrinking` has what rests on one above zero. Assumes nothing.
 use mathlib.Core.Path.{_≡_, refl, sym, ap, _∙_, subst}
-use mathlib.Core.Logic.{_≢_}
+use mathlib.Core.Logic.{_≢_, ⊎-elim}
 use mathlib.Core.List.{List, [], _∷_}
-use Prim.Native.Nat.{ℕ, suc, _+_, _≤_}
+use Prim.Native.Nat.{ℕ, suc, _+_, _≤_, _<_}
 use native.Mathlib.Decide.{le-ind}
+use native.Mathlib.Nat.{eq-or-lt-of-le}
 use native.Mathlib.Omega.{arith}
 use lib.Dec.{T}
 use lib.ListN.{length}
@@ -12,8 +13,9 @@ use Rattle.steps.specs.Num.{+zero}
 use Rattle.support.specs.Word.{Strict}
 use Rattle.rule.specs.declared.Stop.{Stop}
 use Rattle.rule.specs.declared.Stop.the-variants.{NoData, FirstRefused, Empty, RefitRefused, Settled, OutOfRounds}
-use Rattle.rule.specs.Rule.{Problem, State, going, done, refit, round, first, rounds, reported, finish, fit, past, refitted}
+use Rattle.rule.specs.Rule.{Problem, State, going, done, refit, round, first, rounds, reported, last-stop, finish, fit, past, refitted}
 use Rattle.rule.specs.Course.{Course, of-fit}
+use Rattle.rule.specs.LastLook.{next-settles, next-same}
 
 -- a support within the one that was refitted before it, if any
 abbrev pub Below : ℕ → List ℕ → Type 0
@@ -66,7 +68,14 @@ module _ (P : Problem) where
   steady = record { steady = λ r m h k. go r m h k (rounds P r) refl }
     where
       go : (r m : ℕ) → r ≤ m → fit P r .stop ≢ OutOfRounds → (s : State) → rounds P r ≡ s → fit P m ≡ fit P r
-      go r m h k (going cs ws) e = absurd (k (ap (λ s. finish P s .stop) e))
+      go r m h k (going cs ws) e = ⊎-elim (λ q. ap (fit P) (sym q)) late (eq-or-lt-of-le h)
+        where
+          here : last-stop P cs ws ≢ OutOfRounds
+          here = subst (λ s. finish P s .stop ≢ OutOfRounds) e k
+
+          -- the last look settled: so does the next round, and the rest change nothing
+          late : r < m → fit P m ≡ fit P r
+          late l = ap (finish P) (stays (suc r) m (next-settles P r e here) l ∙ sym (next-settles P r e here)) ∙ next-same P r e here
       go r m h k (done t cs ws) e = ap (finish P) (stays r m e h ∙ sym e)
 
   -- ---- a round refits at most once

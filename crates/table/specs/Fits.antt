@@ -23,12 +23,18 @@ use Rattle.table.specs.Solvers.{opened, three}
 unfoldable pub fits : Unit {0}
 unfolding opened ones W.has W.count W.word W.terms W.place W.term
     C.columns P.gram P.moment P.ridge P.damped P.jtj-matrix P.jtr-column
-    R.support R.scatter R.refit R.look R.round R.first R.start R.rounds R.pruned R.reported R.finish R.fit
+    R.support R.scatter R.refit R.look R.round R.first R.start R.rounds R.pruned R.reported R.last-look R.finish R.fit
     F.keeps F.clears F.by-sums F.by-normal F.augmented F.padded F.by-least F.solves F.problem F.fit-by F.matrix-of
 fits = tt
 
 abbrev pub half : Float
 half = lit 0x3fe0000000000000
+
+abbrev pub quarter : Float
+quarter = lit 0x3fd0000000000000
+
+abbrev -quarter : Float
+-quarter = lit 0xbfd0000000000000
 
 -- a fit by a solver, of theta and target, with so many rows and columns, and a setup
 abbrev pub fit-case : Solver → List Float → List Float → ℕ → ℕ → Setup → Fit
@@ -42,7 +48,7 @@ abbrev pub theta1 : List Float
 theta1 = one ∷ +zero ∷ +zero ∷ one ∷ []
 
 abbrev pub target1 : List Float
-target1 = three ∷ lit 0x3fd0000000000000 ∷ []
+target1 = three ∷ quarter ∷ []
 
 pub F8-none : fit-case Normal (one ∷ []) (nan ∷ []) 1 1 (setup-of half +zero 0) ≡ gives (nan ∷ []) OutOfRounds 0 0
 unfolding fits
@@ -58,7 +64,7 @@ unfolding fits
 F1-qr = refl
 
 -- G1: the last column alone is kept: its value goes back to its term, not to its reduced place
-pub G1 : fit-case Normal theta1 (lit 0x3fd0000000000000 ∷ three ∷ []) 2 2 (setup-of half +zero 10) ≡ gives (+zero ∷ three ∷ []) Settled 1 2
+pub G1 : fit-case Normal theta1 (quarter ∷ three ∷ []) 2 2 (setup-of half +zero 10) ≡ gives (+zero ∷ three ∷ []) Settled 1 2
 unfolding fits
 G1 = refl
 
@@ -66,3 +72,14 @@ G1 = refl
 pub G2 : fit-case Normal [] [] 0 2 (setup-of +zero +zero 3) ≡ gives (+zero ∷ +zero ∷ []) NoData 0 3
 unfolding fits
 G2 = refl
+
+-- G3, F3's like: the refit's only coefficient falls below the threshold, so the last look finds nothing: OutOfRounds, not Empty
+pub G3 : fit-case Normal (one ∷ one ∷ +zero ∷ one ∷ []) (-quarter ∷ quarter ∷ []) 2 2 (setup-of half +zero 1) ≡ gives (+zero ∷ +zero ∷ []) OutOfRounds 1 0
+unfolding fits
+G3 = refl
+
+-- G4: one of the refit's two falls, so the last look finds fewer terms than were refitted
+pub G4 : fit-case Normal (one ∷ one ∷ +zero ∷ +zero ∷ one ∷ +zero ∷ +zero ∷ +zero ∷ one ∷ []) (-quarter ∷ quarter ∷ three ∷ []) 3 3 (setup-of half +zero 1)
+    ≡ gives (+zero ∷ +zero ∷ three ∷ []) OutOfRounds 1 4
+unfolding fits
+G4 = refl

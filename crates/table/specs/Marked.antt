@@ -27,8 +27,8 @@ pub record Marked : Type 0 where
   pub F1 : fit-case Normal theta1 target1 2 2 (setup-of half +zero 10) ≡ gives (three ∷ +zero ∷ []) Settled 1 1
   -- F1, max_iter 0: OutOfRounds, 0, word 1
   pub F2 : fit-case Normal theta1 target1 2 2 (setup-of half +zero 0) ≡ gives (three ∷ +zero ∷ []) OutOfRounds 0 1
-  -- F1, max_iter 1: OutOfRounds, 1, word 1
-  pub F3 : fit-case Normal theta1 target1 2 2 (setup-of half +zero 1) ≡ gives (three ∷ +zero ∷ []) OutOfRounds 1 1
+  -- F1, max_iter 1: Settled (as amended), 1, word 1
+  pub F3 : fit-case Normal theta1 target1 2 2 (setup-of half +zero 1) ≡ gives (three ∷ +zero ∷ []) Settled 1 1
   -- F1, threshold 4: zeros, Empty, 0, word 0
   pub F4 : fit-case Normal theta1 target1 2 2 (setup-of four +zero 10) ≡ gives (+zero ∷ +zero ∷ []) Empty 0 0
   -- 1×1: theta 0, target 1, lambda 0: zero, FirstRefused, 0, word 0

@@ -116,6 +116,11 @@ faults! {
     OneRoundMore
     OneRoundLess
     SettledTestedFirst
+    LastLookMissing
+    LastLookWithoutRefit
+    LastLookTakesSmaller
+    LastLookEmpties
+    LastLookClears
     StopsSwapped
     KeptFromLastSupport
     KeptNotBelowColumns
@@ -133,7 +138,7 @@ faults! {
     FrameRoundsBeforeRows
     FrameLimitsBeforeHeader
     FrameLastNewlineMissing
-    FrameNanOwnBits
+    FrameNanOtherBits
     FrameKeptShort
     FrameUpperAccepted
     FrameCrlfAccepted

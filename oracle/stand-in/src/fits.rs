@@ -131,7 +131,27 @@ impl Fit<'_> {
                 coeffs[fault::or(term_idx, Fault::ScatterByPlace, col)] = values[col];
             }
         }
-        (5, refits)
+        (self.last_look(coeffs, refits, *last), refits)
+    }
+
+    /// Rounds used up: after at least one refit one more look, and its stop.
+    fn last_look(&self, coeffs: &mut [f64], refits: u64, last: u64) -> u64 {
+        let looks = refits > 0 || fault::is(Fault::LastLookWithoutRefit);
+        if !looks || fault::is(Fault::LastLookMissing) {
+            return 5;
+        }
+        let support = self.support(coeffs);
+        if support == 0 && fault::is(Fault::LastLookEmpties) {
+            return 2;
+        }
+        let smaller = support != 0 && support & !last == 0;
+        if support == last || smaller && fault::is(Fault::LastLookTakesSmaller) {
+            if fault::is(Fault::LastLookClears) {
+                coeffs.fill(0.0);
+            }
+            return 4;
+        }
+        5
     }
 
     /// The terms at or above the threshold.

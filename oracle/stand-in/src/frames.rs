@@ -45,11 +45,7 @@ impl Problem {
             format!("{stop:02x}{refits:04x}{kept:016x}\n")
         };
         for c in coeffs {
-            let one = if fault::is(Fault::FrameNanOwnBits) {
-                c.to_bits()
-            } else {
-                0x7ff8 << 48
-            };
+            let one = fault::or(0x7ff8 << 48, Fault::FrameNanOtherBits, 0xfff8 << 48);
             let bits = if c.is_nan() { one } else { c.to_bits() };
             text += &format!("{bits:016x}\n");
         }

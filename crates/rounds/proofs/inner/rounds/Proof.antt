@@ -12,7 +12,8 @@ use Rattle.rule.specs.Fits.{problem-of}
 use Rattle.rule.specs.Sizes.{Ready, still}
 use Rattle.rounds.specs.Turned.{Turned}
 use Rattle.rounds.specs.declared.inner.Turn.{Turn}
-use Rattle.rounds.proofs.Turns.{Going, out-of-rounds, goes-on, ends-empty, ends-settled, ends-refused}
+use Rattle.rounds.proofs.Turns.{Going, used-up, goes-on, ends-empty, ends-settled, ends-refused}
+use Rattle.rounds.proofs.Look.{support-found}
 use Rattle.rounds.proofs.inner.rounds.Statement.{statement}
 use Rattle.rounds.proofs.inner.rounds.Tie as tie
 
@@ -131,21 +132,35 @@ loop-again c =
     let r = c .before .before .before .before .before .before .before in
     (turn r .before .loop .inv .0, omega (arith, in-limit (turn r)), same-coeffs r, same-space r, goes-on (P r) (turn r .before .loop .inv .4) _ (came r _ (c .before .support .given .1)))
 
+support-of-requires : tie.Need-support-of-requires Inv-loop μ-loop
+support-of-requires c κs =
+    let end = c .before .before in
+    let begin = end .before .before .before .before .before .before .before in
+    omega (arith, end .loop .inv .2, begin .pre .0 .coeffs-long, begin .pre .0 .sized .limited .few-cols)
+
+last-look-requires : tie.Need-last-look-requires Inv-loop μ-loop
+last-look-requires c κs = search needs
+
 same-length-7 : tie.Need-same-length-7 Inv-loop μ-loop
-same-length-7 c = c .before .loop .inv .2
+same-length-7 c = c .before .before .before .before .loop .inv .2
 
 same-length-8 : tie.Need-same-length-8 Inv-loop μ-loop
-same-length-8 c = c .before .loop .inv .3
+same-length-8 c = c .before .before .before .before .loop .inv .3
 
 returns-4 : tie.Need-returns-4 Inv-loop μ-loop
 returns-4 c =
-    let inv = c .before .loop .inv in
-    out-of-rounds _ (inv .4) (omega (arith, inv .0, inv .1)) (omega (arith, inv .0, c .loop-test .left))
+    let looked = c .before in
+    let out = looked .before .before in
+    let inv = out .before .loop .inv in
+    let begin = out .before .before .before .before .before .before .before .before in
+    let a = begin .args in
+    let found = support-found (a .task) (now (a .theta)) (now (a .target)) _ (inv .2 ∙ begin .pre .0 .coeffs-long) _ (looked .support-of .ensures) in
+    rw (c .last-look .ensures, found) (used-up _ (inv .4) (omega (arith, inv .0, inv .1)) (omega (arith, inv .0, out .loop-test .left)))
 
 pub rounds-spec : {M : Type 1} → statement M
 rounds-spec =
     tie.close
     (tie.spec
     Inv-loop μ-loop empty-requires loop-holds round-requires enum-known-support enum-told same-length same-length-2 returns enum-told-2 same-length-3
-    same-length-4 returns-2 enum-told-3 add-counted same-length-5 same-length-6 returns-3 add-refits loop-less loop-again same-length-7 same-length-8
-    returns-4)
+    same-length-4 returns-2 enum-told-3 add-counted same-length-5 same-length-6 returns-3 add-refits loop-less loop-again support-of-requires last-look-requires same-length-7
+    same-length-8 returns-4)
