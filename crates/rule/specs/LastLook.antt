@@ -32,7 +32,7 @@ last-settles refits last w k = go (eqb refits 0) (eqb w last) refl refl k
     go false true p q k = record { some = eqb-false refits 0 p; same = eqb-true w last q; stop = rw (p, q) }
     go false false p q k = absurd (k refl)
 
--- the stop of a state that has settled
+-- Settled, told from the other stops
 abbrev IsSettled : Stop → Type 0
 IsSettled NoData = ⊥
 IsSettled FirstRefused = ⊥
@@ -41,23 +41,13 @@ IsSettled RefitRefused = ⊥
 IsSettled Settled = Unit {0}
 IsSettled OutOfRounds = ⊥
 
+-- a state's stop, if it has one
+abbrev stop-of : State → Stop
+stop-of (going cs ws) = OutOfRounds
+stop-of (done t cs ws) = t
+
 abbrev HasSettled : State → Type 0
-HasSettled (going cs ws) = ⊥
-HasSettled (done t cs ws) = IsSettled t
-
-stop-settled : (t : Stop) → IsSettled t → t ≡ Settled
-stop-settled NoData h = absurd h
-stop-settled FirstRefused h = absurd h
-stop-settled Empty h = absurd h
-stop-settled RefitRefused h = absurd h
-stop-settled Settled h = refl
-stop-settled OutOfRounds h = absurd h
-
-settled-other : Settled ≢ OutOfRounds
-settled-other e = subst IsSettled e tt
-
-true-false : true ≢ false
-true-false e = subst T e tt
+HasSettled s = IsSettled (stop-of s)
 
 module _ (P : Problem) where
   -- no support that was refitted is empty
@@ -118,7 +108,7 @@ module _ (P : Problem) where
     where
       go : (s : State) → rounds P r ≡ s → SettlesNext r
       go (going cs ws) u =
-          let k : last-stop P cs ws ≢ OutOfRounds = λ o. settled-other (sym e ∙ ap (λ s. finish P s .stop) u ∙ o) in
+          let k : last-stop P cs ws ≢ OutOfRounds = λ o. subst IsSettled (sym e ∙ ap (λ s. finish P s .stop) u ∙ o) tt in
           record { coeffs = cs; supports = ws; settles = next-settles r u k; same = next-same r u k }
       go (done t cs ws) u =
           let settled : t ≡ Settled = sym (ap (λ s. finish P s .stop) u) ∙ e in
@@ -130,7 +120,7 @@ module _ (P : Problem) where
   settled-before r e = go (rounds P r) refl
     where
       refitted : (vs : List ℕ) (w : ℕ) → eqb w 0 ≡ false → eqb w (latest vs) ≡ true → last-look (length vs) (latest vs) w ≡ Settled
-      refitted [] w z t = absurd (true-false (sym t ∙ z))
+      refitted [] w z t = absurd (subst T (sym t ∙ z) tt)
       refitted (v ∷ vs) w z t = rw (ne-eqb (length (v ∷ vs)) 0 (λ e. omega (arith, e)), t)
 
       refits-on : (vs : List ℕ) (w : ℕ) (a : Solution) → HasSettled (refit P vs w a) → ⊥
@@ -144,4 +134,4 @@ module _ (P : Problem) where
           let seen : HasSettled (round P (going ds vs)) = subst HasSettled (sym e ∙ ap (round P) u) tt in
           ap (λ s. finish P s .stop) u
           ∙ either M (eqb w 0) _ _ (λ t h. absurd h) (λ z. either M (eqb w (latest vs)) _ _ (λ t h. refitted vs w z t) (λ k h. absurd (refits-on vs w (P .solve w) h))) seen
-      go (done t ds vs) u = ap (λ s. finish P s .stop) u ∙ stop-settled t (subst HasSettled (sym e ∙ ap (round P) u) tt)
+      go (done t ds vs) u = ap (λ s. finish P s .stop) u ∙ ap stop-of (sym (ap (round P) u) ∙ e)
