@@ -64,6 +64,23 @@ pub fn f1(threshold: f64, max_iter: usize) -> Problem {
     p
 }
 
+/// Ones on theta's diagonal and at row 0, column 1: the first solve gives term 0 the difference of the first two targets, and a refit without term 1 only the first.
+fn falling(target: &[f64]) -> Problem {
+    let n = target.len();
+    let setup = Setup {
+        threshold: 0.5,
+        lambda: 0.0,
+        max_iter: 1,
+    };
+    let mut p = Problem::zeros(Solver::Normal, n, n, setup);
+    for term in 0..n {
+        p.theta[term * n + term] = 1.0;
+    }
+    p.theta[1] = 1.0;
+    p.target = target.to_vec();
+    p
+}
+
 /// A problem of one row and one column.
 fn one(theta: f64, target: f64, lambda: f64, threshold: f64, max_iter: usize) -> Problem {
     let mut p = Problem::zeros(
@@ -118,6 +135,15 @@ fn fits() -> Vec<Line> {
             0,
         ),
         case("F8", one(1.0, f64::NAN, 0.0, 0.5, 1), &[0.0], Empty, 0, 0),
+        case("G3", falling(&[-0.25, 0.25]), &[0.0; 2], OutOfRounds, 1, 0),
+        case(
+            "G4",
+            falling(&[-0.25, 0.25, 3.0]),
+            &[0.0, 0.0, 3.0],
+            OutOfRounds,
+            1,
+            4,
+        ),
     ]
 }
 

@@ -20,8 +20,8 @@ module _ (P : Problem) where
   of-report G h r = go (rounds P r)
     where
       go : (s : State) → G (finish P s)
-      go (going cs ws) = h (last-stop P cs ws) cs ws
-      go (done t cs ws) = h t cs ws
+      go (going cs ws) = h _ _ _
+      go (done t cs ws) = h _ _ _
 
   -- no rows or no columns
   abbrev pub lacking : Bool
