@@ -4,6 +4,7 @@ use crate::fit::Stop;
 use crate::frames::{answered, write};
 use crate::problem::{Problem, Setup, Solver};
 use crate::rng::Rng;
+use crate::table::f1;
 use std::io;
 use std::path::Path;
 
@@ -21,7 +22,9 @@ pub fn all() -> Vec<Example> {
         stop,
     };
     vec![
-        example("f1", f1(), Stop::Settled),
+        example("f1", f1(0.5, 10), Stop::Settled),
+        example("last-round", f1(0.5, 1), Stop::Settled),
+        example("no-round", f1(0.5, 0), Stop::OutOfRounds),
         example("eight-ports", eight_ports(), Stop::Settled),
         example("in-series", in_series(0.0), Stop::FirstRefused),
         example("in-series-damped", in_series(0.0625), Stop::Settled),
@@ -41,14 +44,6 @@ pub fn write_all(folder: &Path) -> io::Result<()> {
         std::fs::write(folder.join(format!("{}.answer", example.name)), answer)?;
     }
     Ok(())
-}
-
-/// Document 01's F1.
-fn f1() -> Problem {
-    let mut p = Problem::zeros(Solver::Normal, 2, 2, setup(0.5, 0.0));
-    p.theta = vec![1.0, 0.0, 0.0, 1.0];
-    p.target = vec![3.0, 0.25];
-    p
 }
 
 fn setup(threshold: f64, lambda: f64) -> Setup {
