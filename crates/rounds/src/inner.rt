@@ -69,7 +69,7 @@ fn last_look(refits: usize, last: Support, support: Support) -> Stop
     Stop::OutOfRounds
 }
 
-// The rounds after a first solve that was not refused: each but the last of them refits.
+// The rounds after a first solve that was not refused: each refits but one that ends the fit. When they are used up, the last look tells the stop.
 pub fn rounds(task: Task, theta: &[f64], target: &[f64], coeffs: &mut [f64], ws: &mut [f64]) -> Ran
     requires { ⌜ Ready task (now theta) (now target) (now coeffs) (now ws) × (start (problem-of task (now theta) (now target)) ≡ going (now coeffs) []) ⌝ }
     ensures { λ r. ⌜ CameTo (problem-of task (now (theta .entry)) (now (target .entry))) (task .setup .«max_iter») (r .stop) (r .refits) (now (coeffs .exit)) ⌝ }
