@@ -93,6 +93,7 @@ reported P t cs past = record { coeffs = pruned P cs; stop = t; refits = length 
 unfoldable pub last-look : ℕ → ℕ → ℕ → Stop
 last-look refits last w = cond (eqb refits 0) OutOfRounds (cond (eqb w last) Settled OutOfRounds)
 
+-- the stop of a fit whose rounds are used up at cs, after the refits past
 abbrev pub last-stop : Problem → List Float → List ℕ → Stop
 last-stop P cs past = last-look (length past) (latest past) (support P cs)
 

@@ -57,6 +57,22 @@ module _ (c : tie.After-round Inv-loop μ-loop) where
   came : (t : Turn) → c .round .result ≡ t → Turned P (turn .before .loop .last .0) (turn .before .loop .coeffs) t new-coeffs
   came t e = subst (λ (s : Turn). Turned P (turn .before .loop .last .0) (turn .before .loop .coeffs) s new-coeffs) e (c .round .ensures)
 
+-- after the loop: the rounds are used up
+module _ (c : tie.After-loop Inv-loop μ-loop) where
+  abbrev begin : tie.Start Inv-loop μ-loop
+  begin = c .before .before .before .before .before .before .before .before
+
+  abbrev limit : ℕ
+  limit = begin .args .task .setup .«max_iter»
+
+  none-more : (c .before .loop .refits ≤ limit) × (limit ≤ c .before .loop .refits)
+  none-more =
+      let inv = c .before .loop .inv in
+      (omega (arith, inv .0, inv .1), omega (arith, inv .0, c .loop-test .left))
+
+  coeffs-long : length (c .before .loop .coeffs) ≡ begin .args .task .cols
+  coeffs-long = c .before .loop .inv .2 ∙ begin .pre .0 .coeffs-long
+
 empty-requires : tie.Need-empty-requires Inv-loop μ-loop
 empty-requires c κs = search needs
 
@@ -133,10 +149,7 @@ loop-again c =
     (turn r .before .loop .inv .0, omega (arith, in-limit (turn r)), same-coeffs r, same-space r, goes-on (P r) (turn r .before .loop .inv .4) _ (came r _ (c .before .support .given .1)))
 
 support-of-requires : tie.Need-support-of-requires Inv-loop μ-loop
-support-of-requires c κs =
-    let end = c .before .before in
-    let begin = end .before .before .before .before .before .before .before in
-    omega (arith, end .loop .inv .2, begin .pre .0 .coeffs-long, begin .pre .0 .sized .limited .few-cols)
+support-of-requires c κs = omega (arith, coeffs-long (c .before), begin (c .before) .pre .0 .sized .limited .few-cols)
 
 last-look-requires : tie.Need-last-look-requires Inv-loop μ-loop
 last-look-requires c κs = search needs
@@ -150,12 +163,10 @@ same-length-8 c = c .before .before .before .before .loop .inv .3
 returns-4 : tie.Need-returns-4 Inv-loop μ-loop
 returns-4 c =
     let looked = c .before in
-    let out = looked .before .before in
-    let inv = out .before .loop .inv in
-    let begin = out .before .before .before .before .before .before .before .before in
-    let a = begin .args in
-    let found = support-found (a .task) (now (a .theta)) (now (a .target)) _ (inv .2 ∙ begin .pre .0 .coeffs-long) _ (looked .support-of .ensures) in
-    rw (c .last-look .ensures, found) (used-up _ (inv .4) (omega (arith, inv .0, inv .1)) (omega (arith, inv .0, out .loop-test .left)))
+    let over = looked .before .before in
+    let a = begin over .args in
+    let found = support-found (a .task) (now (a .theta)) (now (a .target)) _ (coeffs-long over) _ (looked .support-of .ensures) in
+    rw (c .last-look .ensures, found) (used-up _ (over .before .loop .inv .4) (none-more over .0) (none-more over .1))
 
 pub rounds-spec : {M : Type 1} → statement M
 rounds-spec =
