@@ -15,15 +15,15 @@ static size_t which, input_len;
 static double *theta, *target, *square, *values, *space;
 
 static void *call(void *unused) {
-    uint64_t report[3];
+    uint64_t report[4], column[1];
     switch (which) {
     case 1: dapmotar_jtj(theta, ROWS * COLS, ROWS, COLS, 1e-6, square, COLS * COLS); break;
     case 2: dapmotar_jtr(theta, ROWS * COLS, target, ROWS, ROWS, COLS, values, COLS); break;
-    case 3: dapmotar_solve_spd_cholesky(square, COLS * COLS, values, COLS, COLS); break;
-    case 4: dapmotar_solve_lu(square, COLS * COLS, values, COLS, COLS); break;
-    case 5: dapmotar_solve_normal_equations(square, COLS * COLS, values, COLS, COLS, space, COLS * COLS); break;
+    case 3: dapmotar_solve_spd_cholesky(square, COLS * COLS, values, COLS, COLS, column); break;
+    case 4: dapmotar_solve_lu(square, COLS * COLS, values, COLS, COLS, column); break;
+    case 5: dapmotar_solve_normal_equations(square, COLS * COLS, values, COLS, COLS, space, COLS * COLS, column); break;
     case 6: dapmotar_qr(theta, ROWS * COLS, ROWS, COLS, space, ROWS * COLS, values, COLS, space + ROWS * COLS, ROWS); break;
-    case 7: dapmotar_solve_least_squares(theta, ROWS * COLS, target, ROWS, ROWS, COLS, values, COLS, space, ROWS * COLS + 2 * ROWS + 2 * COLS); break;
+    case 7: dapmotar_solve_least_squares(theta, ROWS * COLS, target, ROWS, ROWS, COLS, values, COLS, space, ROWS * COLS + 2 * ROWS + 2 * COLS, column); break;
     case 8: dapmotar_strlsq(theta, ROWS * COLS, ROWS, COLS, target, ROWS, 0.25, 1e-6, 10, values, COLS, space, dapmotar_strlsq_workspace(ROWS, COLS), report); break;
     case 9: dapmotar_strlsq_qr(theta, ROWS * COLS, ROWS, COLS, target, ROWS, 0.25, 1e-6, 10, values, COLS, space, dapmotar_strlsq_qr_workspace(ROWS, COLS), report); break;
     case 10: dapmotar_respond(input, input_len, answer); break;

@@ -5,7 +5,7 @@
  * docs/REFERENCE.md is the reference of what each call does.
  *
  * Slices.      A slice is a pointer and its length in numbers. A null pointer with length 0 is an empty slice.
- * Arrays       of a fixed length, report[3] and answer[DAPMOTAR_ANSWER], are never null.
+ * Arrays       of a fixed length, report[4], column[1] and answer[DAPMOTAR_ANSWER], are never null.
  * Overlap.     What is written, slice or array, must not overlap anything else that is read or written.
  * Matrices     stand by rows: entry (i, j) of a matrix of n columns is number i*n + j.
  * Numbers      may have any bits: infinities, NaN, zeros of both signs. Each operation rounds once.
@@ -39,8 +39,8 @@ enum {
 };
 
 /*
- * Refusals, in the order in which they are looked for. All but 8 and 9 leave every slice and the report unchanged; what
- * 8 and 9 leave is said at the calls that give them.
+ * Refusals, in the order in which they are looked for. All but 8 and 9 leave every slice, the report and the column
+ * unchanged; what 8 and 9 leave is said at the calls that give them.
  */
 enum {
     DAPMOTAR_ACCEPTED = 0,
@@ -52,12 +52,12 @@ enum {
     DAPMOTAR_REFUSED_OUTPUT = 6,          /* an output has the wrong length */
     DAPMOTAR_REFUSED_FEWER_ROWS = 10,     /* fewer rows than columns: qr and least squares only */
     DAPMOTAR_REFUSED_WORKSPACE = 7,       /* the workspace is shorter than needed */
-    DAPMOTAR_REFUSED_CHOLESKY = 8,        /* Cholesky refuses: not positive definite */
-    DAPMOTAR_REFUSED_SMALL_PIVOT = 9,     /* a small pivot or diagonal: singular */
+    DAPMOTAR_REFUSED_CHOLESKY = 8,        /* Cholesky refuses at a column: not positive definite */
+    DAPMOTAR_REFUSED_SMALL_PIVOT = 9,     /* a small pivot or diagonal at a column: singular */
     DAPMOTAR_REFUSED_MALFORMED = 11       /* a malformed frame: dapmotar_respond writes it, no call returns it */
 };
 
-/* Why a fit ended: the first number of its report. */
+/* Why a fit ended: the first number of its report. After 1 and 3 its last number is the term at which the solve refused. */
 enum {
     DAPMOTAR_STOP_NO_DATA = 0,       /* no rows or no columns: zeros */
     DAPMOTAR_STOP_FIRST_REFUSED = 1, /* the first solve was refused: zeros */
@@ -66,6 +66,9 @@ enum {
     DAPMOTAR_STOP_SETTLED = 4,       /* a look, or the last one after max_iter rounds, kept the terms of the last refit */
     DAPMOTAR_STOP_OUT_OF_ROUNDS = 5  /* max_iter rounds are used up, and it has not settled; only here a coefficient can be NaN */
 };
+
+/* The last number of a fit's report where no solve refused. */
+enum { DAPMOTAR_NO_TERM = 255 };
 
 /* The square root, rounded to nearest. Zeros and +infinity give themselves; NaN and numbers below zero that one NaN. */
 double dapmotar_sqrt(double x);
@@ -88,24 +91,26 @@ uint64_t dapmotar_jtr(const double *jac, size_t jac_len, const double *r, size_t
                       size_t n_params, double *out, size_t out_len);
 
 /*
+ * The four solvers: column[0] is the column at which the call refused, under 8 and 9 only; else it is unchanged.
+ *
  * Solves a x = b by Cholesky, for a of n by n: b becomes x, a its factor on and below the diagonal.
  * Refusals: 1, 4, 5, 8. 8 leaves b unchanged; the columns of a before the refused one hold the factor on and below
  * the diagonal, all else of a is unchanged.
  */
-uint64_t dapmotar_solve_spd_cholesky(double *a, size_t a_len, double *b, size_t b_len, size_t n);
+uint64_t dapmotar_solve_spd_cholesky(double *a, size_t a_len, double *b, size_t b_len, size_t n, uint64_t column[1]);
 
 /*
  * Solves a x = b by LU with row swaps, for a of n by n: b becomes x, a its factors.
  * Refusals: 1, 4, 5, 9. 9 leaves a and b as the steps so far made them (b: the row swaps only).
  */
-uint64_t dapmotar_solve_lu(double *a, size_t a_len, double *b, size_t b_len, size_t n);
+uint64_t dapmotar_solve_lu(double *a, size_t a_len, double *b, size_t b_len, size_t n, uint64_t column[1]);
 
 /*
  * Solves a x = b by Cholesky and, where that refuses, by LU: b becomes x. Workspace: n * n numbers.
- * Refusals: 1, 4, 5, 7, 9. 9 leaves b with LU's row swaps.
+ * Refusals: 1, 4, 5, 7, 9. 9 leaves b with LU's row swaps; its column is LU's, wherever Cholesky refused.
  */
 uint64_t dapmotar_solve_normal_equations(const double *a, size_t a_len, double *b, size_t b_len, size_t n,
-                                         double *workspace, size_t workspace_len);
+                                         double *workspace, size_t workspace_len, uint64_t column[1]);
 
 /*
  * The Householder factors of a, m by n: data has m * n numbers (R on and above the diagonal, the vectors below it
@@ -118,31 +123,32 @@ uint64_t dapmotar_qr(const double *a, size_t a_len, size_t m, size_t n, double *
 /*
  * out = the x of least ||a x - b||, for a of m by n and b of m. out has n numbers.
  * Workspace: m * n + 2 * m + 2 * n numbers.
- * Refusals: 1, 2, 4, 5, 6, 10, 7, 9. 9 leaves out unchanged.
+ * Refusals: 1, 2, 4, 5, 6, 10, 7, 9. 9 leaves out unchanged; its column is the last one with a small diagonal.
  */
 uint64_t dapmotar_solve_least_squares(const double *a, size_t a_len, const double *b, size_t b_len, size_t m,
                                       size_t n, double *out, size_t out_len, double *workspace,
-                                      size_t workspace_len);
+                                      size_t workspace_len, uint64_t column[1]);
 
 /*
  * The fit by normal equations. theta has n_rows * n_cols numbers, a column a term; target has n_rows; coeffs has
  * n_cols. Terms whose coefficient's magnitude is below the threshold are dropped and the others fitted again, for at
  * most max_iter rounds.
  * report: the stop; how many refits were tried; the kept word, whose bit j is one exactly if term j's final
- * magnitude is at least the threshold. It is written only if the call is accepted.
+ * magnitude is at least the threshold; the term at which a solve refused, a column of theta also after a refit, or
+ * DAPMOTAR_NO_TERM. It is written only if the call is accepted.
  * Workspace: dapmotar_strlsq_workspace(n_rows, n_cols) numbers.
  * Refusals: 1, 2, 3, 4, 5, 6, 7.
  */
 uint64_t dapmotar_strlsq(const double *theta, size_t theta_len, size_t n_rows, size_t n_cols,
                          const double *target, size_t target_len, double threshold, double lambda,
                          size_t max_iter, double *coeffs, size_t coeffs_len, double *workspace,
-                         size_t workspace_len, uint64_t report[3]);
+                         size_t workspace_len, uint64_t report[4]);
 
 /* The fit by QR: the same, with dapmotar_strlsq_qr_workspace(n_rows, n_cols) numbers of workspace. */
 uint64_t dapmotar_strlsq_qr(const double *theta, size_t theta_len, size_t n_rows, size_t n_cols,
                             const double *target, size_t target_len, double threshold, double lambda,
                             size_t max_iter, double *coeffs, size_t coeffs_len, double *workspace,
-                            size_t workspace_len, uint64_t report[3]);
+                            size_t workspace_len, uint64_t report[4]);
 
 /*
  * The numbers of workspace that a fit needs, with r rows and c columns: r*c + 2*c*c + c for the normal equations,
@@ -154,7 +160,7 @@ size_t dapmotar_strlsq_workspace(size_t n_rows, size_t n_cols);
 size_t dapmotar_strlsq_qr_workspace(size_t n_rows, size_t n_cols);
 
 /* The room for an answer of dapmotar_respond: a report's line, and a line for each of 16 coefficients. */
-enum { DAPMOTAR_ANSWER = 295 };
+enum { DAPMOTAR_ANSWER = 297 };
 
 /*
  * The bench program's exchange: writes the answer to the frames in input to the head of answer, leaves the bytes behind

@@ -23,7 +23,7 @@ int main(void)
     const double target[] = {3.0, 0.25};
     const double threshold = 0.5, lambda = 0.0;
     double coeffs[2];
-    uint64_t report[3];
+    uint64_t report[4];
 
     size_t needed = dapmotar_strlsq_workspace(2, 2);
     double *workspace = malloc(needed * sizeof *workspace);
@@ -39,6 +39,8 @@ int main(void)
     }
     if (report[0] != DAPMOTAR_STOP_SETTLED)
         puts("the fit did not settle");
+    if (report[3] != DAPMOTAR_NO_TERM)
+        printf("port %llu spoilt the solve\n", (unsigned long long)report[3]);
     printf("stop %llu, refits %llu, kept %llx\n", (unsigned long long)report[0], (unsigned long long)report[1],
            (unsigned long long)report[2]);
     for (int port = 0; port < 2; port++)

@@ -4,7 +4,7 @@ use crate::fit::Stop;
 use crate::frames::{answered, write};
 use crate::problem::{Problem, Setup, Solver};
 use crate::rng::Rng;
-use crate::table::f1;
+use crate::table::{f1, g8};
 use std::io;
 use std::path::Path;
 
@@ -28,6 +28,7 @@ pub fn all() -> Vec<Example> {
         example("eight-ports", eight_ports(), Stop::Settled),
         example("in-series", in_series(0.0), Stop::FirstRefused),
         example("in-series-damped", in_series(0.0625), Stop::Settled),
+        example("in-series-refit", g8(), Stop::RefitRefused),
         example("dead-port", dead_port(), Stop::Settled),
         example("nan-reading", nan_reading(), Stop::Empty),
         example("no-rows", no_rows(), Stop::NoData),

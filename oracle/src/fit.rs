@@ -1,9 +1,10 @@
-//! Both fits restated over one loop, so that stop, refits and kept word can be told.
+//! Both fits restated over one loop, so that stop, refits, kept word and refused term can be told.
 //!
 //! The published functions give the coefficients only. `fit` runs them too and stops the program if a single
 //! bit differs, so a report stands only beside coefficients that are the published ones.
 
 use crate::bits::first_difference;
+use crate::columns;
 use crate::linalg;
 use crate::problem::{Problem, Setup, Solver};
 use crate::symreg::strlsq::{strlsq, strlsq_qr};
@@ -40,7 +41,12 @@ pub struct Report {
     pub stop: Stop,
     pub refits: u64,
     pub kept: u64,
+    /// The term at which a solve refused, or NO_TERM.
+    pub term: u64,
 }
+
+/// Where no solve refused.
+pub const NO_TERM: u64 = 0xff;
 
 #[derive(Clone, Debug)]
 pub struct Fit {
@@ -88,7 +94,12 @@ pub fn fitted_by(p: &Problem, normal: Published, qr: Published) -> Vec<f64> {
 
 /// The fit by the rule.
 fn restated(p: &Problem) -> Fit {
-    let (stop, refits, mut coeffs) = rounds(p);
+    let Ran {
+        stop,
+        refits,
+        term,
+        mut coeffs,
+    } = rounds(p);
     for c in &mut coeffs {
         if c.abs() < p.setup.threshold {
             *c = 0.0;
@@ -96,43 +107,64 @@ fn restated(p: &Problem) -> Fit {
     }
     let kept = support_of(&coeffs, p.setup.threshold);
     Fit {
-        report: Report { stop, refits, kept },
+        report: Report {
+            stop,
+            refits,
+            kept,
+            term,
+        },
         coeffs,
     }
 }
 
-/// The first solve and the rounds: the stop, the refits, and the coefficients before the last pass.
-fn rounds(p: &Problem) -> (Stop, u64, Vec<f64>) {
+/// What the first solve and the rounds came to: the coefficients are those before the last pass.
+struct Ran {
+    stop: Stop,
+    refits: u64,
+    term: u64,
+    coeffs: Vec<f64>,
+}
+
+fn rounds(p: &Problem) -> Ran {
+    let ran = |stop, refits, term, coeffs| Ran {
+        stop,
+        refits,
+        term,
+        coeffs,
+    };
     let zeros = vec![0.0; p.cols];
     if p.rows == 0 || p.cols == 0 {
-        return (Stop::NoData, 0, zeros);
+        return ran(Stop::NoData, 0, NO_TERM, zeros);
     }
     let all: Vec<usize> = (0..p.cols).collect();
-    let Some(mut coeffs) = solve(p, &all) else {
-        return (Stop::FirstRefused, 0, zeros);
+    let mut coeffs = match solve(p, &all) {
+        Ok(coeffs) => coeffs,
+        Err(term) => return ran(Stop::FirstRefused, 0, term as u64, zeros),
     };
     let mut last_refitted = 0;
     let mut refits = 0;
     for _ in 0..p.setup.max_iter {
         let support = support_of(&coeffs, p.setup.threshold);
         if support == 0 {
-            return (Stop::Empty, refits, zeros);
+            return ran(Stop::Empty, refits, NO_TERM, zeros);
         }
         if support == last_refitted {
-            return (Stop::Settled, refits, coeffs);
+            return ran(Stop::Settled, refits, NO_TERM, coeffs);
         }
         last_refitted = support;
         refits += 1;
         let terms = terms_of(support);
-        let Some(values) = solve(p, &terms) else {
-            return (Stop::RefitRefused, refits, zeros);
+        let values = match solve(p, &terms) {
+            Ok(values) => values,
+            Err(col) => return ran(Stop::RefitRefused, refits, terms[col] as u64, zeros),
         };
         coeffs.fill(0.0);
         for (col, &term_idx) in terms.iter().enumerate() {
             coeffs[term_idx] = values[col];
         }
     }
-    (last_look(p, refits, last_refitted, &coeffs), refits, coeffs)
+    let stop = last_look(p, refits, last_refitted, &coeffs);
+    ran(stop, refits, NO_TERM, coeffs)
 }
 
 /// The rounds are used up: after at least one refit one more look, and the last refitted support is Settled.
@@ -156,38 +188,41 @@ fn terms_of(support: u64) -> Vec<usize> {
     (0..64).filter(|j| support >> j & 1 == 1).collect()
 }
 
-/// The solve over some of theta's columns, or nothing where it refuses.
-fn solve(p: &Problem, terms: &[usize]) -> Option<Vec<f64>> {
+/// The solve over some of theta's columns, or the one of them at which it refuses.
+fn solve(p: &Problem, terms: &[usize]) -> Result<Vec<f64>, usize> {
     match p.solver {
         Solver::Normal => solve_normal(p, terms),
         Solver::Qr => solve_qr(p, terms),
     }
 }
 
-/// By the normal equations.
-fn solve_normal(p: &Problem, terms: &[usize]) -> Option<Vec<f64>> {
+/// By the normal equations: the refused column is LU's.
+fn solve_normal(p: &Problem, terms: &[usize]) -> Result<Vec<f64>, usize> {
     let c = terms.len();
-    let theta = columns(p, terms, 0);
+    let theta = part(p, terms, 0);
     let a = linalg::jtj(&theta, p.rows, c, p.setup.lambda);
     let mut b = linalg::jtr(&theta, &p.target, p.rows, c);
-    linalg::solve_normal_equations(&a, &mut b, c).ok()?;
-    Some(b)
+    if linalg::solve_normal_equations(&a, &mut b, c).is_ok() {
+        return Ok(b);
+    }
+    Err(columns::of_lu(a, c))
 }
 
 /// By least squares, with c more rows that hold the root of lambda on their diagonal, and c more zeros.
-fn solve_qr(p: &Problem, terms: &[usize]) -> Option<Vec<f64>> {
+fn solve_qr(p: &Problem, terms: &[usize]) -> Result<Vec<f64>, usize> {
     let c = terms.len();
-    let mut a = columns(p, terms, c);
+    let mut a = part(p, terms, c);
     for i in 0..c {
         a[(p.rows + i) * c + i] = p.setup.lambda.sqrt();
     }
     let mut b = p.target.clone();
     b.resize(p.rows + c, 0.0);
-    linalg::solve_least_squares(&a, &b, p.rows + c, c).ok()
+    linalg::solve_least_squares(&a, &b, p.rows + c, c)
+        .map_err(|_| columns::of_least(&a, p.rows + c, c))
 }
 
 /// The columns of some terms, in their order, with `more` rows of +0.0 after them.
-fn columns(p: &Problem, terms: &[usize], more: usize) -> Vec<f64> {
+fn part(p: &Problem, terms: &[usize], more: usize) -> Vec<f64> {
     let mut part = vec![0.0; (p.rows + more) * terms.len()];
     for row in 0..p.rows {
         for (col, &term_idx) in terms.iter().enumerate() {

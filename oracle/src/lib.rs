@@ -6,6 +6,7 @@
 include!(concat!(env!("OUT_DIR"), "/published.rs"));
 
 pub mod bits;
+pub mod columns;
 pub mod examples;
 pub mod fit;
 pub mod frames;

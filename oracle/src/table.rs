@@ -1,7 +1,7 @@
 //! The numbers of document 01, held against the published Rust: a line each.
 
 use crate::bits::{first_difference, same};
-use crate::fit::{Report, Stop, fit};
+use crate::fit::{NO_TERM, Report, Stop, fit};
 use crate::frames::respond;
 use crate::linalg::{qr, solve_lu, solve_spd_cholesky};
 use crate::model;
@@ -100,23 +100,39 @@ fn one(theta: f64, target: f64, lambda: f64, threshold: f64, max_iter: usize) ->
 
 fn fits() -> Vec<Line> {
     use Stop::*;
-    let case = |name, p: Problem, coeffs: &[f64], stop, refits, kept| {
+    let case_at = |name, p: Problem, coeffs: &[f64], stop, refits, kept, term| {
         let got = fit(&p);
-        let holds = got.report == Report { stop, refits, kept }
-            && first_difference(&got.coeffs, coeffs).is_none();
+        let report = Report {
+            stop,
+            refits,
+            kept,
+            term,
+        };
+        let holds = got.report == report && first_difference(&got.coeffs, coeffs).is_none();
         let r = got.report;
         let says = format!(
-            "{:?}, {:?}, {} refits, word {:x}",
-            got.coeffs, r.stop, r.refits, r.kept
+            "{:?}, {:?}, {} refits, word {:x}, term {:02x}",
+            got.coeffs, r.stop, r.refits, r.kept, r.term
         );
         line(name, says, holds)
+    };
+    let case = |name, p, coeffs: &[f64], stop, refits, kept| {
+        case_at(name, p, coeffs, stop, refits, kept, NO_TERM)
     };
     vec![
         case("F1", f1(0.5, 10), &[3.0, 0.0], Settled, 1, 1),
         case("F2", f1(0.5, 0), &[3.0, 0.0], OutOfRounds, 0, 1),
         case("F3", f1(0.5, 1), &[3.0, 0.0], Settled, 1, 1),
         case("F4", f1(4.0, 10), &[0.0, 0.0], Empty, 0, 0),
-        case("F5", one(0.0, 1.0, 0.0, 0.5, 1), &[0.0], FirstRefused, 0, 0),
+        case_at(
+            "F5",
+            one(0.0, 1.0, 0.0, 0.5, 1),
+            &[0.0],
+            FirstRefused,
+            0,
+            0,
+            0,
+        ),
         case("F6", one(1.0, 0.5, 0.0, 0.5, 2), &[0.5], Settled, 1, 1),
         case(
             "F7",
@@ -144,7 +160,52 @@ fn fits() -> Vec<Line> {
             1,
             4,
         ),
+        case_at("G5", g5(), &[0.0; 2], RefitRefused, 1, 0, 1),
+        case_at(
+            "G6",
+            rows(Solver::Normal, &[1.0, 33_554_432.0], &[1.0], 0.0),
+            &[0.0; 2],
+            FirstRefused,
+            0,
+            0,
+            1,
+        ),
+        case_at(
+            "G7",
+            rows(Solver::Qr, &[0.0; 2], &[1.0], 0.0),
+            &[0.0; 2],
+            FirstRefused,
+            0,
+            0,
+            1,
+        ),
+        case_at("G8", g8(), &[0.0; 3], RefitRefused, 1, 0, 2),
     ]
+}
+
+/// Some readings of some ports, threshold 0.5.
+fn rows(solver: Solver, theta: &[f64], target: &[f64], lambda: f64) -> Problem {
+    let setup = Setup {
+        threshold: 0.5,
+        lambda,
+        max_iter: 10,
+    };
+    let cols = theta.len() / target.len();
+    let mut p = Problem::zeros(solver, target.len(), cols, setup);
+    p.theta = theta.to_vec();
+    p.target = target.to_vec();
+    p
+}
+
+/// The refit of the second column alone is refused: its place is 0, its term 1.
+fn g5() -> Problem {
+    rows(Solver::Normal, &[1.0, 1.0, 1.0, 0.0], &[0.0, 3.0], -1.0)
+}
+
+/// Ports 1 and 2 are alike. Their refit is refused at place 1, which is term 2.
+pub fn g8() -> Problem {
+    let theta = [1.0, 16.0, 16.0, 0.0, 0.0, 0.0, 2.0, 0.0, 0.0];
+    rows(Solver::Qr, &theta, &[0.0, 1.0, 0.0], 0.0)
 }
 
 fn solvers() -> Vec<Line> {
@@ -176,7 +237,7 @@ fn exchange() -> Line {
     let input = "01000202000a3fe00000000000000000000000000000\n\
         40080000000000003ff00000000000000000000000000000\n\
         3fd000000000000000000000000000003ff0000000000000\n";
-    let output = "0400010000000000000001\n4008000000000000\n0000000000000000\n";
+    let output = "0400010000000000000001ff\n4008000000000000\n0000000000000000\n";
     line(
         "F1",
         "as frames, byte for byte",

@@ -64,17 +64,19 @@ pub fn jtr(
 ///
 /// 8 leaves `b` unchanged, and `a` with the factor in the columns before the refused one.
 pub fn solve_spd_cholesky(a: &mut [f64], b: &mut [f64], n: usize) -> Result<(), Refusal> {
-    Refusal::answer(unsafe {
-        raw::dapmotar_solve_spd_cholesky(a.as_mut_ptr(), a.len(), b.as_mut_ptr(), b.len(), n)
-    })
+    in_place(raw::dapmotar_solve_spd_cholesky, a, b, n)
 }
 
 /// Solves `a x = b` by LU with row swaps: `a` is left as its factors, `b` as `x`. Refuses 1, 4, 5, 9.
 ///
 /// 9 leaves `a` as the steps so far made it, and `b` with the row swaps only.
 pub fn solve_lu(a: &mut [f64], b: &mut [f64], n: usize) -> Result<(), Refusal> {
-    Refusal::answer(unsafe {
-        raw::dapmotar_solve_lu(a.as_mut_ptr(), a.len(), b.as_mut_ptr(), b.len(), n)
+    in_place(raw::dapmotar_solve_lu, a, b, n)
+}
+
+fn in_place(call: raw::InPlace, a: &mut [f64], b: &mut [f64], n: usize) -> Result<(), Refusal> {
+    Refusal::answer_at(|column| unsafe {
+        call(a.as_mut_ptr(), a.len(), b.as_mut_ptr(), b.len(), n, column)
     })
 }
 
@@ -86,7 +88,7 @@ pub fn solve_normal_equations(
     n: usize,
     workspace: &mut [f64],
 ) -> Result<(), Refusal> {
-    Refusal::answer(unsafe {
+    Refusal::answer_at(|column| unsafe {
         raw::dapmotar_solve_normal_equations(
             a.as_ptr(),
             a.len(),
@@ -95,6 +97,7 @@ pub fn solve_normal_equations(
             n,
             workspace.as_mut_ptr(),
             workspace.len(),
+            column,
         )
     })
 }
@@ -135,7 +138,7 @@ pub fn solve_least_squares(
     out: &mut [f64],
     workspace: &mut [f64],
 ) -> Result<(), Refusal> {
-    Refusal::answer(unsafe {
+    Refusal::answer_at(|column| unsafe {
         raw::dapmotar_solve_least_squares(
             a.as_ptr(),
             a.len(),
@@ -147,6 +150,7 @@ pub fn solve_least_squares(
             out.len(),
             workspace.as_mut_ptr(),
             workspace.len(),
+            column,
         )
     })
 }
@@ -195,7 +199,7 @@ fn fit(
     coeffs: &mut [f64],
     workspace: &mut [f64],
 ) -> Result<Report, Refusal> {
-    let mut report = [0; 3];
+    let mut report = [0; 4];
     Refusal::answer(unsafe {
         call(
             theta.as_ptr(),

@@ -1,15 +1,15 @@
 //! The exports of the static library, as include/dapmotar.h declares them. A slice is a pointer and a length; a
 //! null pointer with length 0 is an empty slice. What is written must not overlap anything else that is read or
-//! written, and `report` and `answer` are never null.
+//! written, and `report`, `column` and `answer` are never null.
 
 /// The room for an answer of [`dapmotar_respond`], in bytes.
-pub const ANSWER: usize = 295;
+pub const ANSWER: usize = 297;
 
-/// The fits' one signature: as the type of either, and as the declaration of both.
-macro_rules! fits {
-    ($($name:ident)* : $takes:tt -> $gives:ty) => {
-        /// Either fit.
-        pub type Fit = unsafe extern "C" fn $takes -> $gives;
+/// One signature of several calls: as the type of each, and as their declarations.
+macro_rules! alike {
+    ($(#[$doc:meta])* $type:ident: $($name:ident)* : $takes:tt -> $gives:ty) => {
+        $(#[$doc])*
+        pub type $type = unsafe extern "C" fn $takes -> $gives;
 
         unsafe extern "C" {
             $(pub fn $name $takes -> $gives;)*
@@ -17,8 +17,9 @@ macro_rules! fits {
     };
 }
 
-fits! {
-    dapmotar_strlsq dapmotar_strlsq_qr: (
+alike! {
+    /// Either fit.
+    Fit: dapmotar_strlsq dapmotar_strlsq_qr: (
         theta: *const f64,
         theta_len: usize,
         n_rows: usize,
@@ -32,7 +33,19 @@ fits! {
         coeffs_len: usize,
         workspace: *mut f64,
         workspace_len: usize,
-        report: *mut [u64; 3],
+        report: *mut [u64; 4],
+    ) -> u64
+}
+
+alike! {
+    /// Cholesky or LU, which solve in place.
+    InPlace: dapmotar_solve_spd_cholesky dapmotar_solve_lu: (
+        a: *mut f64,
+        a_len: usize,
+        b: *mut f64,
+        b_len: usize,
+        n: usize,
+        column: *mut [u64; 1],
     ) -> u64
 }
 
@@ -62,17 +75,6 @@ unsafe extern "C" {
         out_len: usize,
     ) -> u64;
 
-    pub fn dapmotar_solve_spd_cholesky(
-        a: *mut f64,
-        a_len: usize,
-        b: *mut f64,
-        b_len: usize,
-        n: usize,
-    ) -> u64;
-
-    pub fn dapmotar_solve_lu(a: *mut f64, a_len: usize, b: *mut f64, b_len: usize, n: usize)
-    -> u64;
-
     pub fn dapmotar_solve_normal_equations(
         a: *const f64,
         a_len: usize,
@@ -81,6 +83,7 @@ unsafe extern "C" {
         n: usize,
         workspace: *mut f64,
         workspace_len: usize,
+        column: *mut [u64; 1],
     ) -> u64;
 
     pub fn dapmotar_qr(
@@ -107,6 +110,7 @@ unsafe extern "C" {
         out_len: usize,
         workspace: *mut f64,
         workspace_len: usize,
+        column: *mut [u64; 1],
     ) -> u64;
 
     pub safe fn dapmotar_strlsq_workspace(n_rows: usize, n_cols: usize) -> usize;

@@ -4,38 +4,56 @@ use std::fmt;
 
 /// Why a call was refused: the first of these that applies, in the order 1 to 6, 10, 7, 8, 9.
 #[derive(Clone, Copy, Debug, PartialEq, Eq, Hash)]
-#[repr(u64)]
 pub enum Refusal {
     /// More columns than 64.
-    Columns = 1,
+    Columns,
     /// More rows than 4,096; than 4,160 for `qr` and `solve_least_squares`.
-    Rows = 2,
+    Rows,
     /// `max_iter` above 1,000.
-    Rounds = 3,
+    Rounds,
     /// The matrix is not rows times columns long.
-    Matrix = 4,
+    Matrix,
     /// The target or right-hand side is not as long as the matrix has rows.
-    RightHandSide = 5,
+    RightHandSide,
     /// An output has the wrong length.
-    Output = 6,
+    Output,
     /// The workspace is shorter than needed.
-    Workspace = 7,
-    /// Cholesky refuses: the matrix is not positive definite.
-    Cholesky = 8,
-    /// LU met a small pivot, or back substitution a small diagonal: the matrix is singular.
-    SmallPivot = 9,
+    Workspace,
+    /// Cholesky refuses at this column: the matrix is not positive definite.
+    Cholesky(usize),
+    /// LU met a small pivot, or back substitution a small diagonal, at this column: the matrix is singular.
+    SmallPivot(usize),
     /// Fewer rows than columns.
-    FewerRowsThanColumns = 10,
+    FewerRowsThanColumns,
 }
 
 impl Refusal {
     /// The refusal's number.
     pub fn number(self) -> u64 {
-        self as u64
+        match self {
+            Refusal::Columns => 1,
+            Refusal::Rows => 2,
+            Refusal::Rounds => 3,
+            Refusal::Matrix => 4,
+            Refusal::RightHandSide => 5,
+            Refusal::Output => 6,
+            Refusal::Workspace => 7,
+            Refusal::Cholesky(_) => 8,
+            Refusal::SmallPivot(_) => 9,
+            Refusal::FewerRowsThanColumns => 10,
+        }
     }
 
-    /// The answer that a call of the library gave.
+    /// The answer that a call of the library gave, which tells no column.
     pub(crate) fn answer(number: u64) -> Result<(), Refusal> {
+        Refusal::answer_at(|_| number)
+    }
+
+    /// The answer that a solver of the library gave, with the column that it wrote.
+    pub(crate) fn answer_at(call: impl FnOnce(&mut [u64; 1]) -> u64) -> Result<(), Refusal> {
+        let mut column = [0];
+        let number = call(&mut column);
+        let column = column[0] as usize;
         Err(match number {
             0 => return Ok(()),
             1 => Refusal::Columns,
@@ -45,8 +63,8 @@ impl Refusal {
             5 => Refusal::RightHandSide,
             6 => Refusal::Output,
             7 => Refusal::Workspace,
-            8 => Refusal::Cholesky,
-            9 => Refusal::SmallPivot,
+            8 => Refusal::Cholesky(column),
+            9 => Refusal::SmallPivot(column),
             10 => Refusal::FewerRowsThanColumns,
             other => unreachable!("the library gives no answer {other}"),
         })
@@ -63,11 +81,17 @@ impl fmt::Display for Refusal {
             Refusal::RightHandSide => "the right-hand side has the wrong length",
             Refusal::Output => "an output has the wrong length",
             Refusal::Workspace => "the workspace is too short",
-            Refusal::Cholesky => "the matrix is not positive definite",
-            Refusal::SmallPivot => "the matrix is singular",
+            Refusal::Cholesky(_) => "the matrix is not positive definite",
+            Refusal::SmallPivot(_) => "the matrix is singular",
             Refusal::FewerRowsThanColumns => "fewer rows than columns",
         };
-        write!(f, "refusal {}: {text}", self.number())
+        write!(f, "refusal {}: {text}", self.number())?;
+        match self {
+            Refusal::Cholesky(column) | Refusal::SmallPivot(column) => {
+                write!(f, ", at column {column}")
+            }
+            _ => Ok(()),
+        }
     }
 }
 

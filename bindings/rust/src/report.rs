@@ -11,22 +11,21 @@ pub struct Setup {
     pub max_iter: usize,
 }
 
-/// Why a fit ended.
+/// Why a fit ended. A refused solve names the term at which it refused: a column of theta, also after a refit.
 #[derive(Clone, Copy, Debug, PartialEq, Eq, Hash)]
-#[repr(u64)]
 pub enum Stop {
     /// No rows or no columns: zeros.
-    NoData = 0,
-    /// The first solve was refused: zeros.
-    FirstRefused = 1,
+    NoData,
+    /// The first solve was refused, at this term: zeros.
+    FirstRefused(usize),
     /// No term was kept: zeros.
-    Empty = 2,
-    /// A refit was refused: zeros.
-    RefitRefused = 3,
+    Empty,
+    /// A refit was refused, at this term: zeros.
+    RefitRefused(usize),
     /// A look, or the last one when the rounds were used up, kept the terms of the last refit.
-    Settled = 4,
+    Settled,
     /// The rounds were used up, and it has not settled. Only here a coefficient can be NaN.
-    OutOfRounds = 5,
+    OutOfRounds,
 }
 
 /// What a fit says beside its coefficients.
@@ -41,13 +40,14 @@ pub struct Report {
 }
 
 impl Report {
-    /// A report as the library writes it: stop, refits, kept word.
-    pub(crate) fn from_words([stop, refits, kept]: [u64; 3]) -> Report {
+    /// A report as the library writes it: stop, refits, kept word, refused term.
+    pub(crate) fn from_words([stop, refits, kept, term]: [u64; 4]) -> Report {
+        let term = term as usize;
         let stop = match stop {
             0 => Stop::NoData,
-            1 => Stop::FirstRefused,
+            1 => Stop::FirstRefused(term),
             2 => Stop::Empty,
-            3 => Stop::RefitRefused,
+            3 => Stop::RefitRefused(term),
             4 => Stop::Settled,
             5 => Stop::OutOfRounds,
             other => unreachable!("the library gives no stop {other}"),

@@ -58,13 +58,13 @@ fn square_solvers() {
     let mut a = [1e-14];
     assert_eq!(
         solve_spd_cholesky(&mut a, &mut [1.0], 1),
-        Err(Refusal::Cholesky)
+        Err(Refusal::Cholesky(0))
     );
     // a signalling NaN is passed over in the scale, on every processor
     let mut a = [0.0, 0.0, 0.0, f64::from_bits(0x7ff0_0000_0000_0001)];
     assert_eq!(
         solve_spd_cholesky(&mut a, &mut [1.0, 1.0], 2),
-        Err(Refusal::Cholesky)
+        Err(Refusal::Cholesky(0))
     );
 
     let (mut a, mut b) = ([1.0, 2.0, -1.0, 3.0], [1.0, 4.0]);
@@ -72,7 +72,20 @@ fn square_solvers() {
     assert_eq!((a, b), ([1.0, 2.0, -1.0, 5.0], [-1.0, 1.0]));
     assert_eq!(
         solve_lu(&mut [0.0], &mut [1.0], 1),
-        Err(Refusal::SmallPivot)
+        Err(Refusal::SmallPivot(0))
+    );
+    // Cholesky refuses at column 0, LU at column 1: the normal equations tell LU's
+    let (scale, series) = (
+        33_554_432.0,
+        [1.0, 33_554_432.0, 33_554_432.0, 33_554_432.0 * 33_554_432.0],
+    );
+    assert_eq!(
+        solve_spd_cholesky(&mut series.clone(), &mut [1.0, scale], 2),
+        Err(Refusal::Cholesky(0))
+    );
+    assert_eq!(
+        solve_normal_equations(&series, &mut [1.0, scale], 2, &mut [0.0; 4]),
+        Err(Refusal::SmallPivot(1))
     );
 
     let (mut b, mut workspace) = ([1.0, 4.0], [7.0; 5]);
@@ -105,6 +118,12 @@ fn householder() {
     );
     assert_eq!(x, [3.0]);
     assert_eq!(workspace, [0.0; 8]);
+    // both diagonal numbers are small: back substitution meets the last one first
+    let mut workspace = [9.0; 12];
+    assert_eq!(
+        solve_least_squares(&[0.0; 4], &[5.0, 6.0], 2, 2, &mut [9.0; 2], &mut workspace),
+        Err(Refusal::SmallPivot(1))
+    );
 }
 
 #[test]
@@ -137,6 +156,25 @@ fn fits() {
     );
     assert_eq!(coeffs, [3.0, 0.0]);
 
+    // the refit of port 1 alone is refused at its place 0: the stop names the term
+    let refused = Setup {
+        lambda: -1.0,
+        ..setup
+    };
+    let mut workspace = vec![9.0; strlsq_workspace(2, 2)];
+    let report = strlsq(
+        &[1.0, 1.0, 1.0, 0.0],
+        2,
+        2,
+        &[0.0, 3.0],
+        refused,
+        &mut coeffs,
+        &mut workspace,
+    );
+    assert_eq!(report.map(|r| r.stop), Ok(Stop::RefitRefused(1)));
+    assert_eq!(coeffs, [0.0, 0.0]);
+
+    let mut workspace = vec![9.0; strlsq_qr_workspace(2, 2)];
     let many = Setup {
         max_iter: 1001,
         ..setup
@@ -172,7 +210,7 @@ fn exchange() {
         40080000000000003ff00000000000000000000000000000\n\
         3fd000000000000000000000000000003ff0000000000000\n";
     let mut answer = [b'.'; ANSWER];
-    let said = b"0400010000000000000001\n4008000000000000\n0000000000000000\n";
+    let said = b"0400010000000000000001ff\n4008000000000000\n0000000000000000\n";
     assert_eq!(respond(input, &mut answer), said);
     assert_eq!(answer[said.len()..], [b'.'; ANSWER][said.len()..]);
     assert_eq!(respond(b"", &mut answer), b"ff0b\n");

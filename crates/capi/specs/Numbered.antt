@@ -4,8 +4,12 @@ use mathlib.Core.Bool.{cond}
 use mathlib.Core.List.{List, [], _∷_}
 use Prim.Native.Nat.{ℕ}
 use lib.Dec.{ltb}
+use Rattle.refusal.specs.Answers.{answer-column}
+use Rattle.refusal.specs.declared.Column.{Column}
+use Rattle.refusal.specs.declared.Column.the-variants.{None, At}
+use Rattle.refusal.specs.declared.Answer.{Answer}
 use Rattle.rule.specs.Sizes.{fit-need}
-use Rattle.rule.specs.Codes.{stop-code}
+use Rattle.rule.specs.Codes.{stop-code, stop-term}
 use Rattle.rule.specs.declared.Solver.{Solver}
 use Rattle.rule.specs.declared.Fitted.{Fitted}
 use Rattle.rule.specs.declared.Fitted.the-variants.{Fit, Refused}
@@ -16,15 +20,25 @@ pub record Numbered {A : Type 0} (number-of : A → ℕ) (C : A → Type 0) (r :
   pub call : C answer
   pub number : r ≡ number-of answer
 
--- stop, refits and kept word after a fit; a refusal leaves the report unchanged
+-- stop, refits, kept word and refused term after a fit; a refusal leaves the report unchanged
 abbrev pub report-numbers : Fitted → List ℕ → List ℕ
-report-numbers (Fit f) old = stop-code (f .stop) ∷ f .refits ∷ f .kept .0 ∷ []
+report-numbers (Fit f) old = stop-code (f .stop) ∷ f .refits ∷ f .kept .0 ∷ stop-term (f .stop) ∷ []
 report-numbers (Refused w) old = old
 
 -- the call C of a fit, and its report
 pub record Reported (C : Fitted → Type 0) (old new : List ℕ) (answer : Fitted) : Type 0 where
   pub fit : C answer
   pub report : new ≡ report-numbers answer old
+
+-- the column at which a solver refused; where it tells none, what stood there
+abbrev pub column-numbers : Column → List ℕ → List ℕ
+column-numbers None old = old
+column-numbers (At c) old = c ∷ []
+
+-- the call C of a solver, and its column
+pub record WithColumn (C : Answer → Type 0) (old new : List ℕ) (answer : Answer) : Type 0 where
+  pub solve : C answer
+  pub column : new ≡ column-numbers (answer-column answer) old
 
 -- the workspace that a fit of these sizes needs; 0 where they are beyond the limits
 unfoldable pub workspace : Solver → ℕ → ℕ → ℕ

@@ -7,6 +7,7 @@ use Rattle.float64.specs.Root.{absOf}
 use Rattle.float64.specs.Rule.{SqrtCall}
 use Rattle.float64.specs.Unique.{sqrt-unique, abs-unique}
 use Rattle.refusal.specs.Answers.{answer-number}
+use Rattle.refusal.specs.declared.Answer.{Answer}
 use Rattle.builders.specs.Calls.{JtjCall, JtrCall}
 use Rattle.builders.specs.Unique.{jtj-unique, jtr-unique}
 use Rattle.decomp.specs.Calls.{QrCall}
@@ -20,7 +21,7 @@ use Rattle.rule.specs.declared.Task.{Task}
 use Rattle.rule.specs.declared.Solver.{Solver}
 use Rattle.frames.specs.Exchange.{Exchange}
 use Rattle.frames.specs.Unique.{respond-unique}
-use Rattle.capi.specs.Numbered.{Numbered, Reported, workspace}
+use Rattle.capi.specs.Numbered.{Numbered, Reported, WithColumn, workspace}
 
 pub export-sqrt-unique : (x r s : Float) → SqrtCall x r → SqrtCall x s → r ≡ s
 export-sqrt-unique = sqrt-unique
@@ -43,22 +44,39 @@ module _ (jac : List Float) (rows n : ℕ) (out out' out'' : List Float) (r s : 
       let same = jtr-unique jac t rows n out out' out'' _ _ (p .call) (q .call) in
       (numbered p q (same .0), same .1)
 
-module _ (a b : List Float) (n : ℕ) (a' b' a'' b'' : List Float) (r s : ℕ) where
-  pub export-cholesky-unique : Numbered answer-number (CholeskyCall a b n a' b') r → Numbered answer-number (CholeskyCall a b n a'' b'') s → (r ≡ s) × (a' ≡ a'') × (b' ≡ b'')
-  export-cholesky-unique p q =
-      let same = cholesky-unique a b n a' b' a'' b'' _ _ (p .call) (q .call) in
-      (numbered p q (same .0), same .1, same .2)
+-- each solver, whose column was p and is p' or p''
+module _ (p p' p'' : List ℕ) (r s : ℕ) where
+  -- equal answers tell one column
+  column-same : {C D : Answer → Type 0} (h : Numbered answer-number (WithColumn C p p') r) (k : Numbered answer-number (WithColumn D p p'') s) → h .answer ≡ k .answer → (r ≡ s) × (p' ≡ p'')
+  column-same h k same = (numbered h k same, cc)
 
-  pub export-lu-unique : Numbered answer-number (LuCall a b n a' b') r → Numbered answer-number (LuCall a b n a'' b'') s → (r ≡ s) × (a' ≡ a'') × (b' ≡ b'')
-  export-lu-unique p q =
-      let same = lu-unique a b n a' b' a'' b'' _ _ (p .call) (q .call) in
-      (numbered p q (same .0), same .1, same .2)
+  pub export-cholesky-unique : (a b : List Float) (n : ℕ) (a' b' a'' b'' : List Float)
+      → Numbered answer-number (WithColumn (CholeskyCall a b n a' b') p p') r → Numbered answer-number (WithColumn (CholeskyCall a b n a'' b'') p p'') s
+      → ((r ≡ s) × (p' ≡ p'')) × (a' ≡ a'') × (b' ≡ b'')
+  export-cholesky-unique a b n a' b' a'' b'' h k =
+      let same = cholesky-unique a b n a' b' a'' b'' _ _ (h .call .solve) (k .call .solve) in
+      (column-same h k (same .0), same .1, same .2)
 
-pub export-normal-unique : (a b : List Float) (n : ℕ) (w b' w' b'' w'' : List Float) (r s : ℕ)
-    → Numbered answer-number (NormalCall a b n b' w w') r → Numbered answer-number (NormalCall a b n b'' w w'') s → (r ≡ s) × (b' ≡ b'') × (w' ≡ w'')
-export-normal-unique a b n w b' w' b'' w'' r s p q =
-    let same = normal-unique a b n w b' w' b'' w'' _ _ (p .call) (q .call) in
-    (numbered p q (same .0), same .1, same .2)
+  pub export-lu-unique : (a b : List Float) (n : ℕ) (a' b' a'' b'' : List Float)
+      → Numbered answer-number (WithColumn (LuCall a b n a' b') p p') r → Numbered answer-number (WithColumn (LuCall a b n a'' b'') p p'') s
+      → ((r ≡ s) × (p' ≡ p'')) × (a' ≡ a'') × (b' ≡ b'')
+  export-lu-unique a b n a' b' a'' b'' h k =
+      let same = lu-unique a b n a' b' a'' b'' _ _ (h .call .solve) (k .call .solve) in
+      (column-same h k (same .0), same .1, same .2)
+
+  pub export-normal-unique : (a b : List Float) (n : ℕ) (w b' w' b'' w'' : List Float)
+      → Numbered answer-number (WithColumn (NormalCall a b n b' w w') p p') r → Numbered answer-number (WithColumn (NormalCall a b n b'' w w'') p p'') s
+      → ((r ≡ s) × (p' ≡ p'')) × (b' ≡ b'') × (w' ≡ w'')
+  export-normal-unique a b n w b' w' b'' w'' h k =
+      let same = normal-unique a b n w b' w' b'' w'' _ _ (h .call .solve) (k .call .solve) in
+      (column-same h k (same .0), same .1, same .2)
+
+  pub export-least-unique : (a b : List Float) (m n : ℕ) (o w o' w' o'' w'' : List Float)
+      → Numbered answer-number (WithColumn (LeastCall a b m n o o' w w') p p') r → Numbered answer-number (WithColumn (LeastCall a b m n o o'' w w'') p p'') s
+      → ((r ≡ s) × (p' ≡ p'')) × (o' ≡ o'') × (w' ≡ w'')
+  export-least-unique a b m n o w o' w' o'' w'' h k =
+      let same = least-unique a b m n o w o' w' o'' w'' _ _ (h .call .solve) (k .call .solve) in
+      (column-same h k (same .0), same .1, same .2)
 
 pub export-qr-unique : (a : List Float) (m n : ℕ) (d b w d' b' w' d'' b'' w'' : List Float) (r s : ℕ)
     → Numbered answer-number (QrCall a m n d d' b b' w w') r → Numbered answer-number (QrCall a m n d d'' b b'' w w'') s
@@ -66,12 +84,6 @@ pub export-qr-unique : (a : List Float) (m n : ℕ) (d b w d' b' w' d'' b'' w'' 
 export-qr-unique a m n d b w d' b' w' d'' b'' w'' r s p q =
     let same = qr-unique a m n d b w d' b' w' d'' b'' w'' _ _ (p .call) (q .call) in
     (numbered p q (same .0), same .1, same .2, same .3)
-
-pub export-least-unique : (a b : List Float) (m n : ℕ) (o w o' w' o'' w'' : List Float) (r s : ℕ)
-    → Numbered answer-number (LeastCall a b m n o o' w w') r → Numbered answer-number (LeastCall a b m n o o'' w w'') s → (r ≡ s) × (o' ≡ o'') × (w' ≡ w'')
-export-least-unique a b m n o w o' w' o'' w'' r s p q =
-    let same = least-unique a b m n o w o' w' o'' w'' _ _ (p .call) (q .call) in
-    (numbered p q (same .0), same .1, same .2)
 
 module _ (task : Task) (theta target cs w cs' w' cs'' w'' : List Float) (p p' p'' : List ℕ) where
   pub export-fit-unique : (r s : ℕ)

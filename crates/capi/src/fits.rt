@@ -10,19 +10,25 @@ use rule::Solver;
 use rule::fitted_number;
 use rule::inner::needed;
 use rule::stop_code;
+use rule::stop_term;
 
-// Stop, refits and kept word of a fit into `report`; a refusal leaves it unchanged.
-fn put_report(answer: Fitted, report: &mut [u64; 3])
+// Stop, refits, kept word and refused term of a fit into `report`; a refusal leaves it unchanged.
+fn put_report(answer: Fitted, report: &mut [u64; 4])
     ensures { λ _. ⌜ now (report .exit) ≡ report-numbers answer (now (report .entry)) ⌝ }
 {
     if let Fitted::Fit(f) = answer {
         let stop = f.stop;
         let kept = f.kept;
-        *report = [stop_code(stop), f.refits as u64, kept.0];
+        *report = [
+            stop_code(stop),
+            f.refits as u64,
+            kept.0,
+            stop_term(stop) as u64,
+        ];
     }
 }
 
-// Sequential thresholded ridge regression, each solve by the normal equations. `report` is stop, refits and kept word after a fit.
+// Sequential thresholded ridge regression, each solve by the normal equations. `report` is stop, refits, kept word and refused term (255: none) after a fit.
 #[no_mangle]
 pub extern "C" fn dapmotar_strlsq(
     theta: &[f64],
@@ -34,7 +40,7 @@ pub extern "C" fn dapmotar_strlsq(
     max_iter: usize,
     coeffs: &mut [f64],
     workspace: &mut [f64],
-    report: &mut [u64; 3],
+    report: &mut [u64; 4],
 ) -> u64
     ensures { λ r. ⌜ Numbered fitted-number (Reported (FitCall (task-of Solver.Normal «n_rows» «n_cols» (setup-of threshold lambda «max_iter»))
         (now (theta .entry)) (now (target .entry)) (now (coeffs .entry)) (now (coeffs .exit)) (now (workspace .entry)) (now (workspace .exit))) (now (report .entry)) (now (report .exit))) r ⌝ }
@@ -61,7 +67,7 @@ pub extern "C" fn dapmotar_strlsq_qr(
     max_iter: usize,
     coeffs: &mut [f64],
     workspace: &mut [f64],
-    report: &mut [u64; 3],
+    report: &mut [u64; 4],
 ) -> u64
     ensures { λ r. ⌜ Numbered fitted-number (Reported (FitCall (task-of Solver.Qr «n_rows» «n_cols» (setup-of threshold lambda «max_iter»))
         (now (theta .entry)) (now (target .entry)) (now (coeffs .entry)) (now (coeffs .exit)) (now (workspace .entry)) (now (workspace .exit))) (now (report .entry)) (now (report .exit))) r ⌝ }

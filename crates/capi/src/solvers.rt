@@ -1,24 +1,51 @@
 // The solvers and QR.
-ghost use Rattle.capi.specs.Numbered.{Numbered};
+ghost use mathlib.Core.Path.{_≡_};
+ghost use Rattle.capi.specs.Numbered.{Numbered, WithColumn, column-numbers};
 ghost use Rattle.decomp.specs.Calls.{QrCall};
-ghost use Rattle.refusal.specs.Answers.{answer-number};
+ghost use Rattle.refusal.specs.Answers.{answer-number, answer-column};
 ghost use Rattle.solve.specs.Calls.{CholeskyCall, LeastCall, LuCall, NormalCall};
+use refusal::Answer;
+use refusal::Column;
+use refusal::answer_column;
 use refusal::answer_number;
+
+// The column at which a solver refused into `column`; any other answer leaves it unchanged.
+fn put_column(answer: Answer, column: &mut [u64; 1])
+    ensures { λ _. ⌜ now (column .exit) ≡ column-numbers (answer-column answer) (now (column .entry)) ⌝ }
+{
+    if let Column::At(c) = answer_column(answer) {
+        *column = [c as u64];
+    }
+}
 
 // Solves by Cholesky: a becomes the factor, b the solution.
 #[no_mangle]
-pub extern "C" fn dapmotar_solve_spd_cholesky(a: &mut [f64], b: &mut [f64], n: usize) -> u64
-    ensures { λ r. ⌜ Numbered answer-number (CholeskyCall (now (a .entry)) (now (b .entry)) n (now (a .exit)) (now (b .exit))) r ⌝ }
+pub extern "C" fn dapmotar_solve_spd_cholesky(
+    a: &mut [f64],
+    b: &mut [f64],
+    n: usize,
+    column: &mut [u64; 1],
+) -> u64
+    ensures { λ r. ⌜ Numbered answer-number (WithColumn (CholeskyCall (now (a .entry)) (now (b .entry)) n (now (a .exit)) (now (b .exit))) (now (column .entry)) (now (column .exit))) r ⌝ }
 {
-    answer_number(solve::solve_spd_cholesky(a, b, n))
+    let answer = solve::solve_spd_cholesky(a, b, n);
+    put_column(answer, column);
+    answer_number(answer)
 }
 
 // Solves by LU: a becomes the factors, b the solution.
 #[no_mangle]
-pub extern "C" fn dapmotar_solve_lu(a: &mut [f64], b: &mut [f64], n: usize) -> u64
-    ensures { λ r. ⌜ Numbered answer-number (LuCall (now (a .entry)) (now (b .entry)) n (now (a .exit)) (now (b .exit))) r ⌝ }
+pub extern "C" fn dapmotar_solve_lu(
+    a: &mut [f64],
+    b: &mut [f64],
+    n: usize,
+    column: &mut [u64; 1],
+) -> u64
+    ensures { λ r. ⌜ Numbered answer-number (WithColumn (LuCall (now (a .entry)) (now (b .entry)) n (now (a .exit)) (now (b .exit))) (now (column .entry)) (now (column .exit))) r ⌝ }
 {
-    answer_number(solve::solve_lu(a, b, n))
+    let answer = solve::solve_lu(a, b, n);
+    put_column(answer, column);
+    answer_number(answer)
 }
 
 // Solves by Cholesky, or by LU where that refuses: b becomes the solution, a stays, and the workspace is cleared.
@@ -28,10 +55,13 @@ pub extern "C" fn dapmotar_solve_normal_equations(
     b: &mut [f64],
     n: usize,
     workspace: &mut [f64],
+    column: &mut [u64; 1],
 ) -> u64
-    ensures { λ r. ⌜ Numbered answer-number (NormalCall (now (a .entry)) (now (b .entry)) n (now (b .exit)) (now (workspace .entry)) (now (workspace .exit))) r ⌝ }
+    ensures { λ r. ⌜ Numbered answer-number (WithColumn (NormalCall (now (a .entry)) (now (b .entry)) n (now (b .exit)) (now (workspace .entry)) (now (workspace .exit))) (now (column .entry)) (now (column .exit))) r ⌝ }
 {
-    answer_number(solve::solve_normal_equations(a, b, n, workspace))
+    let answer = solve::solve_normal_equations(a, b, n, workspace);
+    put_column(answer, column);
+    answer_number(answer)
 }
 
 // QR of the m by n matrix `a` into `data` and `betas`; the workspace has at least m numbers.
@@ -59,8 +89,11 @@ pub extern "C" fn dapmotar_solve_least_squares(
     n: usize,
     out: &mut [f64],
     workspace: &mut [f64],
+    column: &mut [u64; 1],
 ) -> u64
-    ensures { λ r. ⌜ Numbered answer-number (LeastCall (now (a .entry)) (now (b .entry)) m n (now (out .entry)) (now (out .exit)) (now (workspace .entry)) (now (workspace .exit))) r ⌝ }
+    ensures { λ r. ⌜ Numbered answer-number (WithColumn (LeastCall (now (a .entry)) (now (b .entry)) m n (now (out .entry)) (now (out .exit)) (now (workspace .entry)) (now (workspace .exit))) (now (column .entry)) (now (column .exit))) r ⌝ }
 {
-    answer_number(solve::solve_least_squares(a, b, m, n, out, workspace))
+    let answer = solve::solve_least_squares(a, b, m, n, out, workspace);
+    put_column(answer, column);
+    answer_number(answer)
 }

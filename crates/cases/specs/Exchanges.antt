@@ -1,15 +1,21 @@
--- Whole exchanges of the bench program, by computing: document 01's F1, and a fit with no rows. Assumes nothing.
+-- Whole exchanges of the bench program, by computing: document 01's F1, a fit with no rows, and one that names its port. Assumes nothing.
 use mathlib.Core.Path.{_≡_, refl}
 use Rattle.frames.specs.Exchange.{answer-of}
 use Rattle.frames.specs.Examples.{text, framed}
 use Rattle.table.specs.Fits.{fits}
 
 pub F1-exchange : answer-of (text "01000202000a3fe00000000000000000000000000000\n40080000000000003ff00000000000000000000000000000\n3fd000000000000000000000000000003ff0000000000000\n")
-    ≡ text "0400010000000000000001\n4008000000000000\n0000000000000000\n"
+    ≡ text "0400010000000000000001ff\n4008000000000000\n0000000000000000\n"
 unfolding fits framed
 F1-exchange = refl
 
 -- no rows: nothing follows the header; at a threshold of zero the +0.0 coefficients are kept
-pub no-rows : answer-of (text "02000002000a00000000000000000000000000000000\n") ≡ text "0000000000000000000003\n0000000000000000\n0000000000000000\n"
+pub no-rows : answer-of (text "02000002000a00000000000000000000000000000000\n") ≡ text "0000000000000000000003ff\n0000000000000000\n0000000000000000\n"
 unfolding fits framed
 no-rows = refl
+
+-- G5: the refit of port 1 alone is refused, and the line's last two digits name that port
+pub G5-exchange : answer-of (text "01000202000a3fe0000000000000bff0000000000000\n00000000000000003ff00000000000003ff0000000000000\n40080000000000003ff00000000000000000000000000000\n")
+    ≡ text "030001000000000000000001\n0000000000000000\n0000000000000000\n"
+unfolding fits framed
+G5-exchange = refl

@@ -1,2 +1,3 @@
 -- Cholesky. Assumes nothing.
 pub mod Cholesky
+pub mod Refuses

@@ -1,25 +1,28 @@
 -- How a fit begins: no data, a first solve that is refused, or one that gives the first coefficients. Assumes nothing.
-use mathlib.Core.Path.{_≡_, refl, sym, ap, _∙_}
+use mathlib.Core.Path.{_≡_, refl, sym, ap, _∙_, subst}
 use mathlib.Core.Logic.{_≢_}
 use mathlib.Core.List.{List, [], _∷_}
-use Prim.Native.Nat.{ℕ, zero-le, _≤_}
+use Prim.Native.Nat.{ℕ, zero-le, _≤_, _<_}
 use native.Mathlib.Omega.{arith}
 use borrow.Author.Tests.{eq-eqb, ne-eqb}
 use lib.ListN.{length}
 use lib.Ieee.{Float}
 use Rattle.steps.specs.Num.{at}
 use Rattle.steps.specs.Space.{cleared}
-use Rattle.support.specs.Word.{full}
-use Rattle.refusal.specs.Answers.{solved, refused}
-use Rattle.refusal.specs.declared.Solved.{Solved}
-use Rattle.refusal.specs.declared.Solved.the-variants.{Done, Refused}
+use Rattle.support.specs.Word.{full, term-at}
+use Rattle.support.specs.TermLaws.{term-at-full}
+use Rattle.support.specs.declared.Term.{Term}
+use Rattle.refusal.specs.Answers.{solved, refused, Within}
 use Rattle.rule.specs.declared.Task.{Task}
 use Rattle.rule.specs.declared.Stop.{Stop}
 use Rattle.rule.specs.declared.Stop.the-variants.{NoData, FirstRefused}
 use Rattle.rule.specs.Rule.{Problem, going, done, zeros, scatter, first, start, rounds}
 use Rattle.rule.specs.Fits.{problem, matrix-of, problem-of}
+use Rattle.rule.specs.Refuses.{columned}
 use Rattle.rule.specs.Stable.{stays}
 use Rattle.rule.specs.Values.{one-a-column, solves-full, scatter-full}
+use Rattle.refit.specs.declared.inner.Spread.{Spread}
+use Rattle.refit.specs.declared.inner.Spread.the-variants.{Done, Refused}
 use Rattle.refit.specs.Parts.{OverSupport}
 use Rattle.refit.specs.Placed.{done-placed, refused-placed}
 use Rattle.rounds.specs.Ran.{CameTo}
@@ -52,7 +55,7 @@ module _ (task : Task) (theta target : List Float) where
 
   -- the solve over all columns, whose answer was a, and which left y
   module _ (some-rows : task .rows ≢ 0) (some-cols : task .cols ≢ 0) (small : task .cols ≤ 64) (w : ℕ) (all : w ≡ full (task .cols))
-      (a : Solved) (y : List Float) (solve : OverSupport task theta target w a y) where
+      (a : Spread) (y : List Float) (solve : OverSupport task theta target w a y) where
     begun : start P ≡ first P (P .whole)
     unfolding start problem
     begun = rw (ne-eqb (task .rows) 0 some-rows, ne-eqb (task .cols) 0 some-cols)
@@ -61,11 +64,15 @@ module _ (task : Task) (theta target : List Float) where
     unfolding problem
     whole = rw all (solves-full (task .solver) (task .setup .lambda) (at target) (task .rows) (task .cols) (matrix-of task theta) small)
 
-    pub first-refused : (c : ℕ) (x : List Float) → a ≡ Refused c → length y ≡ task .cols → x ≡ cleared (task .cols) y → CameTo P limit FirstRefused 0 x
+    -- refused: among all columns a column is its own term
+    pub first-refused : (t : Term) (x : List Float) → a ≡ Refused t → length y ≡ task .cols → x ≡ cleared (task .cols) y → CameTo P limit (FirstRefused t) 0 x
     unfolding first problem
-    first-refused c x t h i =
-        let no : P .whole ≡ refused c = sym whole ∙ refused-placed a (task .cols) w c _ y t solve in
-        at-once (begun ∙ ap (first P) no) (zeroed (task .cols) y h i)
+    first-refused t x e h i =
+        let no = refused-placed a (task .cols) w t _ y e solve in
+        let at-column : P .whole ≡ refused (no .column) = sym whole ∙ no .refuses in
+        let below : no .column < task .cols = subst (Within (task .cols)) at-column (columned task _ _ .first-solve) in
+        let own : t .0 ≡ no .column = no .term ∙ ap (λ (v : ℕ). term-at v (no .column)) all ∙ term-at-full (task .cols) (no .column) small below in
+        at-once (begun ∙ ap (first P) (at-column ∙ ap refused (sym own))) (zeroed (task .cols) y h i)
 
     pub first-goes : a ≡ Done → start P ≡ going y []
     unfolding first problem

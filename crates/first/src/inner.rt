@@ -3,8 +3,8 @@ ghost use mathlib.Core.Path.{_≡_};
 ghost use Rattle.rule.specs.Fits.{problem-of};
 ghost use Rattle.rule.specs.Sizes.{Ready};
 ghost use Rattle.rounds.specs.Ran.{CameTo};
+use refit::inner::Spread;
 use refit::inner::solve_terms;
-use refusal::Solved;
 use rounds::inner::Ran;
 use rounds::inner::rounds;
 use rule::Stop;
@@ -30,12 +30,14 @@ pub fn run(task: Task, theta: &[f64], target: &[f64], coeffs: &mut [f64], ws: &m
             refits: 0,
         };
     }
-    let Solved::Done = solve_terms(task, theta, target, Support::full(task.cols), coeffs, ws) else {
-        clear(coeffs, task.cols);
-        return Ran {
-            stop: Stop::FirstRefused,
-            refits: 0,
-        };
-    };
-    rounds(task, theta, target, coeffs, ws)
+    match solve_terms(task, theta, target, Support::full(task.cols), coeffs, ws) {
+        Spread::Done => rounds(task, theta, target, coeffs, ws),
+        Spread::Refused(term) => {
+            clear(coeffs, task.cols);
+            Ran {
+                stop: Stop::FirstRefused(term),
+                refits: 0,
+            }
+        }
+    }
 }

@@ -14,7 +14,7 @@ use Rattle.hex.specs.Hex.{number-at, float, digits, bits, newline}
 use Rattle.hex.specs.ReadBack.{length-digits, read-back, float-back}
 use Rattle.rule.specs.Rule.{Fit}
 use Rattle.rule.specs.Calls.{report-of}
-use Rattle.rule.specs.Codes.{stop-code}
+use Rattle.rule.specs.Codes.{stop-code, stop-term}
 use Rattle.rule.specs.Rounded.{in-format, tab-column}
 use Rattle.rule.specs.Promises.{coefficients-fit}
 use Rattle.rule.specs.declared.Task.{Task}
@@ -26,7 +26,7 @@ use Rattle.reader.specs.Rows.{target}
 use Rattle.frames.specs.Exchange.{checked, fit-asked, fit-lines, answer-lines, answer-of}
 use Rattle.frames.specs.Cases.{answer-good, was-accepted}
 use Rattle.writer.specs.Lines.{lines-append, length-lines, length-report}
-use Rattle.frames.specs.InDigits.{refits-within, kept-within}
+use Rattle.frames.specs.InDigits.{refits-within, kept-within, term-within}
 use Rattle.reader.specs.declared.inner.header.Head.the-variants.{Good}
 use Rattle.refusal.specs.declared.Answer.the-variants.{Done}
 
@@ -35,13 +35,14 @@ pub record Says (a : List ℕ) (f : Fit) : Type 0 where
   pub stop : number-at a 0 2 ≡ stop-code (f .stop)
   pub refits : number-at a 2 4 ≡ f .refits
   pub kept : number-at a 6 16 ≡ f .kept
+  pub term : number-at a 22 2 ≡ stop-term (f .stop)
   pub coefficient : (j : ℕ) → j < length (f .coeffs) → float a (report-bytes + coefficient-bytes * j) ≡ at (f .coeffs) j
 
 code-lt : (s : Stop) → stop-code s < 16 ^ 2
 code-lt NoData = lit< tt
-code-lt FirstRefused = lit< tt
+code-lt (FirstRefused t) = lit< tt
 code-lt Empty = lit< tt
-code-lt RefitRefused = lit< tt
+code-lt (RefitRefused t) = lit< tt
 code-lt Settled = lit< tt
 code-lt OutOfRounds = lit< tt
 
@@ -65,16 +66,19 @@ module _ (report : List ℕ) (xs : List Float) (j : ℕ) (h : j < length xs) (f 
       rw (line-at xs j h, ← append-assoc report (coefficient-lines (take j xs)), ← place) (float-back (at xs j) before _ f)
 
 -- lines say what was written, where its digits hold it
-lines-read-back : (f : Fit) → f .refits < 16 ^ 4 → f .kept < 16 ^ 16 → ((j : ℕ) → T (fits binary64 (at (f .coeffs) j))) → Says (fit-lines f) f
+lines-read-back : (f : Fit) → f .refits < 16 ^ 4 → f .kept < 16 ^ 16 → stop-term (f .stop) < 16 ^ 2 → ((j : ℕ) → T (fits binary64 (at (f .coeffs) j))) → Says (fit-lines f) f
 unfolding fit-lines report-line
-lines-read-back f r k g =
+lines-read-back f r k u g =
     let stop = digits 2 (stop-code (f .stop)) in
     let refits = digits 4 (f .refits) in
+    let kept = digits 16 (f .kept) in
+    let term = digits 2 (stop-term (f .stop)) in
     let lines = (newline ∷ []) ++ coefficient-lines (f .coeffs) in
     record {
-      stop = number-in _ [] (refits ++ (digits 16 (f .kept) ++ lines)) 0 2 _ (simp append-assoc) refl (code-lt (f .stop));
-      refits = number-in _ stop (digits 16 (f .kept) ++ lines) 2 4 _ (simp append-assoc) (length-digits 2 _) r;
-      kept = number-in _ (stop ++ refits) lines 6 16 _ (simp append-assoc) (simp (length-append, length-digits)) k;
+      stop = number-in _ [] (refits ++ (kept ++ (term ++ lines))) 0 2 _ (simp append-assoc) refl (code-lt (f .stop));
+      refits = number-in _ stop (kept ++ (term ++ lines)) 2 4 _ (simp append-assoc) (length-digits 2 _) r;
+      kept = number-in _ (stop ++ refits) (term ++ lines) 6 16 _ (simp append-assoc) (simp (length-append, length-digits)) k;
+      term = number-in _ (stop ++ (refits ++ kept)) lines 22 2 _ (simp append-assoc) (simp (length-append, length-digits)) u;
       coefficient = λ j h. coefficient-back (report-line (report-of f)) (f .coeffs) j h (g j) (length-report (report-of f));
     }
 
@@ -85,9 +89,9 @@ coefficients-in-format s task =
     let read = tab-column in-format (task .rows) (target s (task .cols)) (λ r. ofBits-fits binary64 _) in
     coefficients-fit task _ (at (tab (task .rows) (target s (task .cols)))) (read .each)
 
--- the answer to an accepted input says its fit: the stop, the refits, the kept word, and each coefficient, a NaN as a NaN
+-- the answer to an accepted input says its fit: the stop, the refits, the kept word, the refused term, and each coefficient, a NaN as a NaN
 pub answer-read-back : (s : List ℕ) (task : Task) → head-of s ≡ Good task → checked s task ≡ Done → Says (answer-of s) (fit-asked s task)
 unfolding answer-lines
 answer-read-back s task e c =
     let ok = was-accepted s task c in
-    rw (answer-good s task Done e c) (lines-read-back (fit-asked s task) (refits-within s task ok) (kept-within s task ok) (coefficients-in-format s task))
+    rw (answer-good s task Done e c) (lines-read-back (fit-asked s task) (refits-within s task ok) (kept-within s task ok) (term-within s task ok) (coefficients-in-format s task))

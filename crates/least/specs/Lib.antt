@@ -1,2 +1,3 @@
 -- Least squares. Assumes nothing.
 pub mod Least
+pub mod Refuses

@@ -1,2 +1,3 @@
 -- LU. Assumes nothing.
 pub mod Lu
+pub mod Refuses

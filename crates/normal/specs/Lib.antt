@@ -1,2 +1,3 @@
 -- The normal equations. Assumes nothing.
 pub mod Normal
+pub mod Refuses

@@ -9,12 +9,13 @@ use lib.Seq.{take-at, take-take}
 use lib.Ieee.{Float}
 use Rattle.steps.specs.Num.{at, Entry, cell}
 use Rattle.places.specs.Columns.{columns}
-use Rattle.refusal.specs.Answers.{Solution, solved, solution, told}
+use Rattle.refusal.specs.Answers.{Solution, solved, refused, solution, told}
 use Rattle.refusal.specs.declared.Solved.{Solved}
 use Rattle.refusal.specs.declared.Solved.the-variants.{Done, Refused}
 use Rattle.sums.specs.Products.{gram, moment, ridge, jtj-matrix, jtr-column}
 use Rattle.normal.specs.Normal.{normal}
 use Rattle.least.specs.Least.{values}
+use Rattle.support.specs.Word.{term-at}
 use Rattle.rule.specs.Rule.{scatter}
 use Rattle.rule.specs.Fits.{problem, problem-of, matrix-of, solves, by-normal, by-sums}
 use Rattle.rule.specs.declared.Task.{Task}
@@ -24,8 +25,8 @@ use Rattle.refit.proofs.Head.{scatter-head}
 
 module _ (n w : ℕ) (s : Solution) (r : Solved) where
   -- refused: what stands in the coefficients is not looked at
-  pub refused-out : (c : ℕ) (x y : List Float) → r ≡ Refused c → gave r y ≡ s → gave r x ≡ placed n w s
-  refused-out c x y e q = rw (← q, e)
+  pub refused-out : (c t : ℕ) (y : List Float) → r ≡ Refused c → t ≡ term-at w c → gave r y ≡ s → refused t ≡ placed n w s
+  refused-out c t y e h q = rw (← q, e, h)
 
   -- done: the values at the head of the coefficients go to their terms
   pub done-out : {m : ℕ} {x : List Float} (vs rest : List Float) → r ≡ Done → gave r vs ≡ s → m ≡ n → w < 2 ^ n → length vs ≡ ones w → x ≡ scatter m w (vs ++ rest) → solved x ≡ placed n w s

@@ -6,10 +6,13 @@ use lib.Count.{ones}
 use lib.Ieee.{Float}
 use Rattle.refusal.specs.Answers.{Solution, solved, refused, solution, told}
 use Rattle.refusal.specs.declared.Solved.{Solved}
+use Rattle.support.specs.Word.{term-at}
 use Rattle.rule.specs.Rule.{scatter}
 use Rattle.rule.specs.Fits.{problem-of}
 use Rattle.rule.specs.Sizes.{Sized}
 use Rattle.rule.specs.declared.Task.{Task}
+use Rattle.refit.specs.declared.inner.Spread.{Spread}
+use Rattle.refit.specs.declared.inner.Spread.the-variants.{Done, Refused}
 
 -- theta and target are as the task's sizes say, and the support w names k of theta's columns
 pub record Counted (task : Task) (theta target : List Float) (w k : ℕ) : Type 0 where
@@ -17,15 +20,20 @@ pub record Counted (task : Task) (theta target : List Float) (w k : ℕ) : Type 
   pub within : w < 2 ^ task .cols
   pub count : k ≡ ones w
 
--- the coefficients after a solve over w: each value at its term
+-- what a solve over w gives of theta's terms: each value at its term, or the term of the column at which it refused
 abbrev pub placed : ℕ → ℕ → Solution → Solution
 placed n w (solved vs) = solved (scatter n w vs)
-placed n w (refused c) = refused c
+placed n w (refused c) = refused (term-at w c)
 
--- what a solve answered, with the coefficients that it left
+-- what a solve of columns answered, with the values that it left
 abbrev pub gave : Solved → List Float → Solution
-gave r cs = solution (told r cs)
+gave r vs = solution (told r vs)
+
+-- and one of terms, with the coefficients that it left
+abbrev pub spread : Spread → List Float → Solution
+spread Done cs = solved cs
+spread (Refused t) cs = refused (t .0)
 
 -- the solve of a support's columns, its values put at their terms
-abbrev pub OverSupport : Task → List Float → List Float → ℕ → Solved → List Float → Type 0
-OverSupport task theta target w r cs = gave r cs ≡ placed (task .cols) w (problem-of task theta target .solve w)
+abbrev pub OverSupport : Task → List Float → List Float → ℕ → Spread → List Float → Type 0
+OverSupport task theta target w r cs = spread r cs ≡ placed (task .cols) w (problem-of task theta target .solve w)

@@ -14,7 +14,9 @@ use coeffs::inner::scatter;
 use refusal::Solved;
 use rule::Solver;
 use rule::Task;
+use support::Col;
 use support::Support;
+use support::Term;
 
 // The values of the support's columns by reduced place, in b.
 fn solve_columns(
@@ -35,6 +37,12 @@ fn solve_columns(
     }
 }
 
+// What a solve over a support came to: its values at their terms, or the term of theta at which it refused.
+pub enum Spread {
+    Done,
+    Refused(Term),
+}
+
 // The solve over a support's columns, its values put at their terms.
 pub fn solve_terms(
     task: Task,
@@ -43,15 +51,19 @@ pub fn solve_terms(
     support: Support,
     coeffs: &mut [f64],
     ws: &mut [f64],
-) -> Solved
+) -> Spread
     requires { ⌜ Ready task (now theta) (now target) (now coeffs) (now ws) × (support .0 < 2 ^ task .cols) ⌝ }
     ensures { λ r. ⌜ OverSupport task (now (theta .entry)) (now (target .entry)) (support .0) r (now (coeffs .exit)) ⌝ }
 {
     let n_active = support.count();
-    let solved = solve_columns(task, theta, target, support, &mut coeffs[0..n_active], ws);
-    let Solved::Done = solved else {
-        return solved;
-    };
-    scatter(coeffs, support);
-    Solved::Done
+    match solve_columns(task, theta, target, support, &mut coeffs[0..n_active], ws) {
+        Solved::Done => {
+            scatter(coeffs, support);
+            Spread::Done
+        }
+        Solved::Refused(col) => {
+            let term = support.term_at(Col(col));
+            Spread::Refused(term)
+        }
+    }
 }

@@ -1,6 +1,6 @@
 -- The refusals by their numbers, the first that applies, and what a call leaves by its answer. Assumes nothing.
 use mathlib.Core.Bool.{Bool, cond}
-use Prim.Native.Nat.{ℕ}
+use Prim.Native.Nat.{ℕ, _<_}
 use mathlib.Core.List.{List}
 use lib.Ieee.{Float}
 use Rattle.steps.specs.Loops.{Way, going, stopped}
@@ -8,6 +8,8 @@ use Rattle.refusal.specs.declared.Refusal.{Refusal}
 use Rattle.refusal.specs.declared.Refusal.the-variants.{ManyColumns, ManyRows, ManyRounds, MatrixLength, TargetLength, OutputLength, WorkspaceShort, NotSpd, SmallPivot, FewRows, Malformed}
 use Rattle.refusal.specs.declared.Answer.{Answer}
 use Rattle.refusal.specs.declared.Answer.the-variants.{Done, Refused}
+use Rattle.refusal.specs.declared.Column.{Column}
+use Rattle.refusal.specs.declared.Column.the-variants.{None, At}
 use Rattle.refusal.specs.declared.Solved.{Solved}
 use Rattle.refusal.specs.declared.Solved.the-variants as S
 
@@ -20,8 +22,8 @@ number MatrixLength = 4
 number TargetLength = 5
 number OutputLength = 6
 number WorkspaceShort = 7
-number NotSpd = 8
-number SmallPivot = 9
+number (NotSpd c) = 8
+number (SmallPivot c) = 9
 number FewRows = 10
 number Malformed = 11
 
@@ -29,6 +31,25 @@ number Malformed = 11
 abbrev pub answer-number : Answer → ℕ
 answer-number Done = 0
 answer-number (Refused w) = number w
+
+-- the column that a refusal carries: 8 and 9 do
+abbrev pub column-of : Refusal → Column
+column-of ManyColumns = None
+column-of ManyRows = None
+column-of ManyRounds = None
+column-of MatrixLength = None
+column-of TargetLength = None
+column-of OutputLength = None
+column-of WorkspaceShort = None
+column-of (NotSpd c) = At c
+column-of (SmallPivot c) = At c
+column-of FewRows = None
+column-of Malformed = None
+
+-- the column at which an answer says that a solver refused
+abbrev pub answer-column : Answer → Column
+answer-column Done = None
+answer-column (Refused w) = column-of w
 
 -- refused where the test says so, else as the next ones say: a ladder of these gives the first that applies
 abbrev pub refuse-if : Bool → Refusal → Answer → Answer
@@ -49,20 +70,25 @@ abbrev pub told : {S : Type 0} → Solved → S → Way S
 told S.Done s = going s
 told (S.Refused c) s = stopped c s
 
--- a solve that stopped is refused as w
-abbrev pub ended : {S : Type 0} → Refusal → Way S → Answer
+-- a solve that stopped is refused as w, at its column
+abbrev pub ended : {S : Type 0} → (ℕ → Refusal) → Way S → Answer
 ended w (going s) = Done
-ended w (stopped c s) = Refused w
+ended w (stopped c s) = Refused (w c)
 
 -- what a solver answers inside, as the answer of a public call
-abbrev pub answered : Refusal → Solved → Answer
+abbrev pub answered : (ℕ → Refusal) → Solved → Answer
 answered w S.Done = Done
-answered w (S.Refused c) = Refused w
+answered w (S.Refused c) = Refused (w c)
 
--- what a solve gives: the values of its columns, or the column at which it refused (no report tells it yet: a later order does)
+-- what a solve gives: the values of its columns, or the column at which it refused
 pub data Solution : Type 0 where
   solved : List Float → Solution
   refused : ℕ → Solution
+
+-- refused, if at all, at one of n columns
+abbrev pub Within : ℕ → Solution → Type 0
+Within n (solved x) = Unit {0}
+Within n (refused c) = c < n
 
 abbrev pub solution : Way (List Float) → Solution
 solution (going x) = solved x

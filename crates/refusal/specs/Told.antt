@@ -8,7 +8,7 @@ use Rattle.refusal.specs.declared.Solved.{Solved}
 use Rattle.refusal.specs.declared.Solved.the-variants.{Done, Refused}
 
 -- what a solve told ends as its answer does, and leaves what it left
-pub ended-told : {A : Type 0} (w : Refusal) (s : Solved) (x : A) → ended w (told s x) ≡ answered w s
+pub ended-told : {A : Type 0} (w : ℕ → Refusal) (s : Solved) (x : A) → ended w (told s x) ≡ answered w s
 ended-told w Done x = refl
 ended-told w (Refused c) x = refl
 

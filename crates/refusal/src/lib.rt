@@ -2,7 +2,7 @@
 pub mod inner;
 
 ghost use mathlib.Core.Path.{_≡_};
-ghost use Rattle.refusal.specs.Answers.{answer-number, number};
+ghost use Rattle.refusal.specs.Answers.{answer-column, answer-number, column-of, number};
 
 pub enum Refusal {
     ManyColumns,
@@ -12,8 +12,9 @@ pub enum Refusal {
     TargetLength,
     OutputLength,
     WorkspaceShort,
-    NotSpd,
-    SmallPivot,
+    // at this column of the matrix
+    NotSpd(usize),
+    SmallPivot(usize),
     FewRows,
     Malformed,
 }
@@ -30,6 +31,12 @@ pub enum Solved {
     Refused(usize),
 }
 
+// A column of a matrix, or none.
+pub enum Column {
+    None,
+    At(usize),
+}
+
 // The number of a refusal in document 01.
 pub fn number(w: Refusal) -> u64
     ensures { λ r. ⌜ r ≡ number w ⌝ }
@@ -42,10 +49,29 @@ pub fn number(w: Refusal) -> u64
         Refusal::TargetLength => 5,
         Refusal::OutputLength => 6,
         Refusal::WorkspaceShort => 7,
-        Refusal::NotSpd => 8,
-        Refusal::SmallPivot => 9,
+        Refusal::NotSpd(_) => 8,
+        Refusal::SmallPivot(_) => 9,
         Refusal::FewRows => 10,
         Refusal::Malformed => 11,
+    }
+}
+
+// The column that a refusal carries: 8 and 9 do.
+pub fn column_of(w: Refusal) -> Column
+    ensures { λ r. ⌜ r ≡ column-of w ⌝ }
+{
+    match w {
+        Refusal::ManyColumns => Column::None,
+        Refusal::ManyRows => Column::None,
+        Refusal::ManyRounds => Column::None,
+        Refusal::MatrixLength => Column::None,
+        Refusal::TargetLength => Column::None,
+        Refusal::OutputLength => Column::None,
+        Refusal::WorkspaceShort => Column::None,
+        Refusal::NotSpd(c) => Column::At(c),
+        Refusal::SmallPivot(c) => Column::At(c),
+        Refusal::FewRows => Column::None,
+        Refusal::Malformed => Column::None,
     }
 }
 
@@ -56,5 +82,15 @@ pub fn answer_number(a: Answer) -> u64
     match a {
         Answer::Done => 0,
         Answer::Refused(w) => number(w),
+    }
+}
+
+// The column at which an answer says that a solver refused.
+pub fn answer_column(a: Answer) -> Column
+    ensures { λ r. ⌜ r ≡ answer-column a ⌝ }
+{
+    match a {
+        Answer::Done => Column::None,
+        Answer::Refused(w) => column_of(w),
     }
 }

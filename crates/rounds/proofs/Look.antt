@@ -1,5 +1,5 @@
 -- A round, in the words of what the code's calls ensure. Assumes nothing.
-use mathlib.Core.Path.{_≡_, sym, ap, _∙_}
+use mathlib.Core.Path.{_≡_, refl, sym, ap, _∙_}
 use mathlib.Core.Logic.{_≢_}
 use mathlib.Core.Bool.{Bool, true, false}
 use mathlib.Core.List.{List, _∷_}
@@ -13,13 +13,15 @@ use Rattle.steps.specs.Space.{cleared}
 use Rattle.support.specs.Word.{word}
 use Rattle.support.specs.WordLaws.{word-lt}
 use Rattle.support.specs.declared.Support.{Support}
-use Rattle.refusal.specs.declared.Solved.{Solved}
-use Rattle.refusal.specs.declared.Solved.the-variants as A
+use Rattle.support.specs.declared.Term.{Term}
 use Rattle.rule.specs.declared.Task.{Task}
-use Rattle.rule.specs.Rule.{Problem, going, latest, support, refit, look, round}
+use Rattle.rule.specs.declared.Stop.the-variants.{RefitRefused}
+use Rattle.rule.specs.Rule.{Problem, going, done, zeros, latest, support, refit, look, round}
 use Rattle.rule.specs.Fits.{keeps, problem, problem-of}
+use Rattle.refit.specs.declared.inner.Spread.{Spread}
+use Rattle.refit.specs.declared.inner.Spread.the-variants as A
 use Rattle.refit.specs.Parts.{OverSupport}
-use Rattle.refit.specs.Placed.{done-placed, refused-placed}
+use Rattle.refit.specs.Placed.{RefusedTerm, done-placed, refused-placed}
 use Rattle.rounds.specs.declared.inner.Turn.the-variants.{Again, Empty, Settled, Refused}
 use Rattle.rounds.specs.Turned.{Turned}
 use Rattle.rounds.specs.Ended.{zeroed}
@@ -64,16 +66,20 @@ module _ (task : Task) (theta target : List Float) (last : ℕ) (cs : List Float
     turn-settled e = record { rule = λ past i. looked past ∙ rw (ne-eqb (w .0) 0 some, eq-eqb (w .0) (latest past) (e ∙ i)) }
 
     -- the solve over w, whose answer was a, and which left y
-    module _ (other : w .0 ≢ last) (a : Solved) (y : List Float) (solve : OverSupport task theta target (w .0) a y) where
+    module _ (other : w .0 ≢ last) (a : Spread) (y : List Float) (solve : OverSupport task theta target (w .0) a y) where
       solving : (past : List ℕ) → last ≡ latest past → round P (going cs past) ≡ refit P past (w .0) (P .solve (w .0))
       unfolding look
       solving past i = looked past ∙ rw (ne-eqb (w .0) 0 some, ne-eqb (w .0) (latest past) (λ q. other (q ∙ sym i)))
 
-      pub turn-refused : (c : ℕ) (x : List Float) → a ≡ A.Refused c → length y ≡ task .cols → x ≡ cleared (task .cols) y → Turned P last cs Refused x
+      refused-ends : (t : Term) (x : List Float) → RefusedTerm (w .0) (P .solve (w .0)) t → x ≡ zeros (task .cols) → (past : List ℕ)
+          → refit P past (w .0) (P .solve (w .0)) ≡ done (RefitRefused t) x (support P cs ∷ past)
       unfolding refit problem
-      turn-refused c x t h e =
-          let no = refused-placed a (task .cols) (w .0) c (P .solve (w .0)) y t solve in
-          record { rule = λ past i. solving past i ∙ rw (no, zeroed (task .cols) y h e, found) }
+      refused-ends t x r z past = rw (← found, r .refuses, ← r .term, z) refl
+
+      pub turn-refused : (t : Term) (x : List Float) → a ≡ A.Refused t → length y ≡ task .cols → x ≡ cleared (task .cols) y → Turned P last cs (Refused t) x
+      turn-refused t x e h i =
+          let at-term = refused-placed a (task .cols) (w .0) t (P .solve (w .0)) y e solve in
+          record { rule = λ past l. solving past l ∙ refused-ends t x at-term (zeroed (task .cols) y h i) past }
 
       pub turn-again : a ≡ A.Done → Turned P last cs (Again w) y
       unfolding refit problem

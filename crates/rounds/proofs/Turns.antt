@@ -7,6 +7,7 @@ use native.Mathlib.Numerals.{add-one}
 use lib.ListN.{length}
 use lib.Ieee.{Float}
 use Rattle.support.specs.declared.Support.{Support}
+use Rattle.support.specs.declared.Term.{Term}
 use Rattle.rule.specs.declared.Stop.the-variants as S
 use Rattle.rule.specs.Rule.{Problem, going, latest, support, round, rounds, reported, last-look, finish, fit}
 use Rattle.rule.specs.Stable.{stays}
@@ -48,5 +49,5 @@ module _ (P : Problem) where
       pub ends-settled : Turned P last cs T.Settled x → CameTo P m S.Settled r x
       ends-settled u = came-to P m (g .past) (stays P (suc r) m (next T.Settled u) l) (g .count-is)
 
-      pub ends-refused : Turned P last cs T.Refused x → CameTo P m S.RefitRefused (r + 1) x
-      ends-refused u = came-to P m (support P cs ∷ g .past) (stays P (suc r) m (next T.Refused u) l) (add-one r ∙ ap suc (g .count-is))
+      pub ends-refused : (t : Term) → Turned P last cs (T.Refused t) x → CameTo P m (S.RefitRefused t) (r + 1) x
+      ends-refused t u = came-to P m (support P cs ∷ g .past) (stays P (suc r) m (next (T.Refused t) u) l) (add-one r ∙ ap suc (g .count-is))

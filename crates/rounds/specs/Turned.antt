@@ -13,7 +13,7 @@ abbrev pub turned : Problem → List Float → List ℕ → Turn → List Float 
 turned P cs past (Again w) x = going x (w .0 ∷ past)
 turned P cs past Empty x = done S.Empty x past
 turned P cs past Settled x = done S.Settled x past
-turned P cs past Refused x = done S.RefitRefused x (support P cs ∷ past)
+turned P cs past (Refused t) x = done (S.RefitRefused t) x (support P cs ∷ past)
 
 -- a round from cs after a last refit over last (0: none), whatever was refitted before that
 pub record Turned (P : Problem) (last : ℕ) (cs : List Float) (t : Turn) (x : List Float) : Type 0 where

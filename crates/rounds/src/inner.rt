@@ -7,19 +7,20 @@ ghost use Rattle.rule.specs.Sizes.{Ready};
 ghost use Rattle.rounds.specs.Turned.{Turned};
 ghost use Rattle.rounds.specs.Ran.{CameTo};
 use coeffs::inner::support_of;
+use refit::inner::Spread;
 use refit::inner::solve_terms;
-use refusal::Solved;
 use rule::Stop;
 use rule::Task;
 use slices::inner::clear;
 use support::Support;
+use support::Term;
 
-// What a round came to: a refit over this support, or the fit's end.
+// What a round came to: a refit over this support, or the fit's end, by a refused refit at this term.
 pub enum Turn {
     Again(Support),
     Empty,
     Settled,
-    Refused,
+    Refused(Term),
 }
 
 // How the rounds of a fit ended.
@@ -49,11 +50,13 @@ pub fn round(
     if support.same(last) {
         return Turn::Settled;
     }
-    let Solved::Done = solve_terms(task, theta, target, support, coeffs, ws) else {
-        clear(coeffs, task.cols);
-        return Turn::Refused;
-    };
-    Turn::Again(support)
+    match solve_terms(task, theta, target, support, coeffs, ws) {
+        Spread::Done => Turn::Again(support),
+        Spread::Refused(term) => {
+            clear(coeffs, task.cols);
+            Turn::Refused(term)
+        }
+    }
 }
 
 // The rounds are used up after this many refits, and one more look found this support.
@@ -93,10 +96,10 @@ pub fn rounds(task: Task, theta: &[f64], target: &[f64], coeffs: &mut [f64], ws:
                     refits,
                 };
             }
-            Turn::Refused => {
+            Turn::Refused(term) => {
                 let counted = refits + 1;
                 return Ran {
-                    stop: Stop::RefitRefused,
+                    stop: Stop::RefitRefused(term),
                     refits: counted,
                 };
             }

@@ -9,11 +9,20 @@ use Rattle.rule.specs.declared.Fitted.the-variants.{Fit, Refused}
 -- stops in code order 00 to 05
 abbrev pub stop-code : Stop → ℕ
 stop-code NoData = 0
-stop-code FirstRefused = 1
+stop-code (FirstRefused t) = 1
 stop-code Empty = 2
-stop-code RefitRefused = 3
+stop-code (RefitRefused t) = 3
 stop-code Settled = 4
 stop-code OutOfRounds = 5
+
+-- the term at which a solve refused; ff where there is no such term
+abbrev pub stop-term : Stop → ℕ
+stop-term NoData = 0xff
+stop-term (FirstRefused t) = t .0
+stop-term Empty = 0xff
+stop-term (RefitRefused t) = t .0
+stop-term Settled = 0xff
+stop-term OutOfRounds = 0xff
 
 -- a fit's answer by number: 0 for a report, else the refusal's
 abbrev pub fitted-number : Fitted → ℕ

@@ -23,9 +23,9 @@ use Rattle.rule.specs.LastLook.{LastSettles, last-settles}
 -- the stops that leave only zeros: no data, a refused solve, an empty support
 abbrev pub Zeroed : Stop → Type 0
 Zeroed NoData = Unit {0}
-Zeroed FirstRefused = Unit {0}
+Zeroed (FirstRefused t) = Unit {0}
 Zeroed Empty = Unit {0}
-Zeroed RefitRefused = Unit {0}
+Zeroed (RefitRefused t) = Unit {0}
 Zeroed Settled = ⊥
 Zeroed OutOfRounds = ⊥
 
@@ -63,9 +63,9 @@ module _ (P : Problem) where
   -- once it is done, by its stop
   Ending : Stop → List Float → List ℕ → Type 0
   Ending NoData cs ws = cs ≡ zeros (P .cols)
-  Ending FirstRefused cs ws = cs ≡ zeros (P .cols)
+  Ending (FirstRefused t) cs ws = cs ≡ zeros (P .cols)
   Ending Empty cs ws = cs ≡ zeros (P .cols)
-  Ending RefitRefused cs ws = cs ≡ zeros (P .cols)
+  Ending (RefitRefused t) cs ws = cs ≡ zeros (P .cols)
   Ending Settled cs ws = Closed cs ws
   Ending OutOfRounds cs ws = ⊥
 
@@ -113,9 +113,9 @@ module _ (P : Problem) where
     where
       over : (t : Stop) (cs : List Float) (ws : List ℕ) → Ending t cs ws → Zeroed t → pruned P cs ≡ zeros (P .cols)
       over NoData cs ws i z = ap (pruned P) i ∙ pruned-zeros
-      over FirstRefused cs ws i z = ap (pruned P) i ∙ pruned-zeros
+      over (FirstRefused t) cs ws i z = ap (pruned P) i ∙ pruned-zeros
       over Empty cs ws i z = ap (pruned P) i ∙ pruned-zeros
-      over RefitRefused cs ws i z = ap (pruned P) i ∙ pruned-zeros
+      over (RefitRefused t) cs ws i z = ap (pruned P) i ∙ pruned-zeros
       over Settled cs ws i z = absurd z
       over OutOfRounds cs ws i z = absurd z
 
@@ -151,9 +151,9 @@ module _ (P : Problem) where
 
       over : (t : Stop) (cs : List Float) (ws : List ℕ) → Ending t cs ws → at (pruned P cs) j ≢ nan
       over NoData cs ws i = zeroed cs i
-      over FirstRefused cs ws i = zeroed cs i
+      over (FirstRefused t) cs ws i = zeroed cs i
       over Empty cs ws i = zeroed cs i
-      over RefitRefused cs ws i = zeroed cs i
+      over (RefitRefused t) cs ws i = zeroed cs i
       over Settled cs ws i = from cs (closed-number j h cs ws i l)
       over OutOfRounds cs ws i = absurd i
 

@@ -35,9 +35,9 @@ last-settles refits last w k = go (eqb refits 0) (eqb w last) refl refl k
 -- Settled, told from the other stops
 abbrev IsSettled : Stop → Type 0
 IsSettled NoData = ⊥
-IsSettled FirstRefused = ⊥
+IsSettled (FirstRefused t) = ⊥
 IsSettled Empty = ⊥
-IsSettled RefitRefused = ⊥
+IsSettled (RefitRefused t) = ⊥
 IsSettled Settled = Unit {0}
 IsSettled OutOfRounds = ⊥
 

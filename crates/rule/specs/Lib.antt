@@ -9,6 +9,7 @@ pub mod Accepted
 pub mod Unique
 pub mod Course
 pub mod LastLook
+pub mod Refuses
 pub mod Stable
 pub mod Shrinking
 pub mod Endings

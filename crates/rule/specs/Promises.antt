@@ -15,9 +15,10 @@ use Rattle.places.specs.Columns.{columns}
 use Rattle.rule.specs.declared.Setup.{Setup}
 use Rattle.rule.specs.declared.Task.{Task}
 use Rattle.rule.specs.declared.Stop.the-variants.{Settled, OutOfRounds}
-use Rattle.rule.specs.Rule.{Problem, Fit, done, zeros, rounds}
+use Rattle.rule.specs.Rule.{Problem, Fit, done, zeros, rounds, refitted}
 use Rattle.rule.specs.Fits.{keeps, problem, problem-by, fit-by}
 use Rattle.rule.specs.LastLook.{SettlesNext, settled-next, settled-before}
+use Rattle.rule.specs.Refuses.{columned, RefusedAt, refused-at}
 use Rattle.rule.specs.Stable.{Steady, steady, Bounded, ZeroKept, refits-few}
 use Rattle.rule.specs.Shrinking.{bounded}
 use Rattle.rule.specs.Endings.{Zeroed, ends-with-zeros, no-nan, kept-lt, kept-rule}
@@ -89,6 +90,11 @@ module _ (task : Task) (e : Entry) (t : ℕ → Float) where
   pub numbers-left : f .stop ≢ OutOfRounds → (j : ℕ) → j < task .cols → at (f .coeffs) j ≢ nan
   unfolding fit-by problem keeps
   numbers-left k j l = no-nan P j (nan-below (setup .threshold)) (setup .«max_iter») k l
+
+  -- a solve that refused did so at a term of theta, and after a refit at one of the support that was refitted
+  pub refused-term : task .cols ≤ 64 → RefusedAt (task .cols) (f .stop) (refitted P (setup .«max_iter»))
+  unfolding fit-by problem
+  refused-term few = refused-at P (columned task e t) few (setup .«max_iter»)
 
   -- never more refits than rounds, at any threshold
   pub refits-at-most : f .refits ≤ setup .«max_iter»

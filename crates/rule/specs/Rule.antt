@@ -7,7 +7,7 @@ use lib.ListN.{length, replicate}
 use lib.Ieee.{Float}
 use Rattle.steps.specs.Num.{+zero, at}
 use Rattle.steps.specs.Table.{tab}
-use Rattle.support.specs.Word.{has, place, word}
+use Rattle.support.specs.Word.{has, place, word, term-at}
 use Rattle.refusal.specs.Answers.{Solution, solved, refused}
 use Rattle.rule.specs.declared.Stop.{Stop}
 use Rattle.rule.specs.declared.Stop.the-variants.{NoData, FirstRefused, Empty, RefitRefused, Settled, OutOfRounds}
@@ -50,9 +50,9 @@ support P cs = word (λ j. P .keeps j (at cs j)) (P .cols)
 unfoldable pub scatter : ℕ → ℕ → List Float → List Float
 scatter n w vs = tab n (λ j. cond (has w j) (at vs (place w j)) +zero)
 
--- the refit over w, counted even if refused (at which column is not told yet)
+-- the refit over w, counted even if refused: at theta's term of the refused column, never at its reduced place
 unfoldable pub refit : Problem → List ℕ → ℕ → Solution → State
-refit P past w (refused c) = done RefitRefused (zeros (P .cols)) (w ∷ past)
+refit P past w (refused c) = done (RefitRefused (record { 0 = term-at w c })) (zeros (P .cols)) (w ∷ past)
 refit P past w (solved vs) = going (scatter (P .cols) w vs) (w ∷ past)
 
 -- a look that found the support w: empty, or the same as the last refitted one, or a refit
@@ -65,9 +65,9 @@ unfoldable pub round : Problem → State → State
 round P (done t cs past) = done t cs past
 round P (going cs past) = look P cs past (support P cs)
 
--- the first solve, over all columns
+-- the first solve, over all columns: there a column is its own term
 unfoldable pub first : Problem → Solution → State
-first P (refused c) = done FirstRefused (zeros (P .cols)) []
+first P (refused c) = done (FirstRefused (record { 0 = c })) (zeros (P .cols)) []
 first P (solved vs) = going vs []
 
 -- no rows or columns: zeros, NoData

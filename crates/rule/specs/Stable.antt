@@ -50,9 +50,9 @@ ZeroKept P = (j : ℕ) (c : Float) → T (P .keeps j +zero) → T (P .keeps j c)
 -- a fit that is done stopped for another reason than its limit
 abbrev Ended : Stop → Type 0
 Ended NoData = Unit {0}
-Ended FirstRefused = Unit {0}
+Ended (FirstRefused t) = Unit {0}
 Ended Empty = Unit {0}
-Ended RefitRefused = Unit {0}
+Ended (RefitRefused t) = Unit {0}
 Ended Settled = Unit {0}
 Ended OutOfRounds = ⊥
 

@@ -3,7 +3,7 @@ use mathlib.Core.Path.{_≡_}
 use mathlib.Core.List.{List}
 use Prim.Native.Nat.{ℕ}
 use lib.Ieee.{Float}
-use Rattle.rule.specs.Codes.{stop-code, fitted-number}
+use Rattle.rule.specs.Codes.{stop-code, stop-term, fitted-number}
 use Rattle.rule.specs.Calls.{FitCall}
 use Rattle.rule.specs.declared.Task.{Task}
 use Rattle.rule.specs.declared.Stop.{Stop}
@@ -15,6 +15,9 @@ fit-unique task theta target cs w cs' w' cs'' w'' r s p q = (cc, cc, cc)
 
 pub stop-code-unique : (s : Stop) (r t : ℕ) → r ≡ stop-code s → t ≡ stop-code s → r ≡ t
 stop-code-unique s r t p q = cc
+
+pub stop-term-unique : (s : Stop) (r t : ℕ) → r ≡ stop-term s → t ≡ stop-term s → r ≡ t
+stop-term-unique s r t p q = cc
 
 pub fitted-number-unique : (f : Fitted) (r t : ℕ) → r ≡ fitted-number f → t ≡ fitted-number f → r ≡ t
 fitted-number-unique f r t p q = cc

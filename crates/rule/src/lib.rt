@@ -2,10 +2,11 @@
 pub mod inner;
 
 ghost use mathlib.Core.Path.{_≡_};
-ghost use Rattle.rule.specs.Codes.{fitted-number, stop-code};
+ghost use Rattle.rule.specs.Codes.{fitted-number, stop-code, stop-term};
 use refusal::Refusal;
 use refusal::number;
 use support::Support;
+use support::Term;
 
 // The threshold, lambda and max_iter travel together through every layer.
 pub struct Setup {
@@ -28,12 +29,12 @@ pub struct Task {
     pub setup: Setup,
 }
 
-// Why a fit ended.
+// Why a fit ended; a solve that refused names the term of theta at which it did.
 pub enum Stop {
     NoData,
-    FirstRefused,
+    FirstRefused(Term),
     Empty,
-    RefitRefused,
+    RefitRefused(Term),
     Settled,
     OutOfRounds,
 }
@@ -57,11 +58,25 @@ pub fn stop_code(s: Stop) -> u64
 {
     match s {
         Stop::NoData => 0,
-        Stop::FirstRefused => 1,
+        Stop::FirstRefused(_) => 1,
         Stop::Empty => 2,
-        Stop::RefitRefused => 3,
+        Stop::RefitRefused(_) => 3,
         Stop::Settled => 4,
         Stop::OutOfRounds => 5,
+    }
+}
+
+// The term at which a solve refused, as a report says it: 255 where there is none.
+pub fn stop_term(s: Stop) -> usize
+    ensures { λ r. ⌜ r ≡ stop-term s ⌝ }
+{
+    match s {
+        Stop::NoData => 255,
+        Stop::FirstRefused(t) => t.0,
+        Stop::Empty => 255,
+        Stop::RefitRefused(t) => t.0,
+        Stop::Settled => 255,
+        Stop::OutOfRounds => 255,
     }
 }
 

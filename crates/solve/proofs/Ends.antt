@@ -18,7 +18,7 @@ use Rattle.normal.specs.Normal.{normal}
 use Rattle.least.specs.Least.{values, least}
 use Rattle.solve.specs.Calls.{square-sizes, SquareCall, normal-sizes, NormalCall, least-need, least-sizes, LeastLeft, LeastCall}
 
-module _ {why : Refusal} {solve : Way (List Float × List Float)} {a b : List Float} {n : ℕ} {sizes : Answer} (judged : sizes ≡ square-sizes n (length a) (length b)) where
+module _ {why : ℕ → Refusal} {solve : Way (List Float × List Float)} {a b : List Float} {n : ℕ} {sizes : Answer} (judged : sizes ≡ square-sizes n (length a) (length b)) where
   pub square-refused : {w : Refusal} → sizes ≡ Refused w → SquareCall why solve a b n a b sizes
   square-refused e = record { sizes = sizes; judged = judged; answer = rw e; matrix = rw e; right = rw e }
 
@@ -49,9 +49,9 @@ module _ {a b : List Float} {n : ℕ} {w : List Float} {sizes : Answer} (judged 
 
 module _ (n : ℕ) {x : Solution} {o : List Float} where
   -- least squares that is refused leaves the output as it was
-  pub least-stops : (s : Solved) {c : ℕ} (y : List Float) → s ≡ S.Refused c → values n (told s y) ≡ x → LeastLeft x o o (Refused SmallPivot)
+  pub least-stops : (s : Solved) {c : ℕ} (y : List Float) {r : Answer} → s ≡ S.Refused c → values n (told s y) ≡ x → r ≡ answered SmallPivot s → LeastLeft x o o r
   unfolding values
-  least-stops s y e t = let q = rw e at t in record { answer = rw (← q); out = rw (← q) }
+  least-stops s y e t i = let q = rw e at t in record { answer = rw (← q) (rw e at i); out = rw (← q) }
 
   pub least-solves : (s : Solved) (y : List Float) {o' : List Float} → s ≡ S.Done → values n (told s y) ≡ x → o' ≡ take n y → LeastLeft x o o' Done
   unfolding values

@@ -50,8 +50,8 @@ least-sizes m n matrix right out space =
 
 -- ---- calls: refused sizes leave every slice unchanged
 
--- a square solver: the solve leaves a and b also where it refuses, which is answered as `why`
-pub record SquareCall (why : Refusal) (solve : Way (List Float × List Float)) (a b : List Float) (n : ℕ) (a' b' : List Float) (r : Answer) : Type 0 where
+-- a square solver: the solve leaves a and b also where it refuses, which is answered as `why` at its column
+pub record SquareCall (why : ℕ → Refusal) (solve : Way (List Float × List Float)) (a b : List Float) (n : ℕ) (a' b' : List Float) (r : Answer) : Type 0 where
   pub sizes : Answer
   pub judged : sizes ≡ square-sizes n (length a) (length b)
   pub answer : r ≡ and-then sizes (ended why solve)
@@ -66,7 +66,7 @@ CholeskyCall a b n a' b' r = SquareCall NotSpd (cholesky n a b) a b n a' b' r
 abbrev pub LuCall : List Float → List Float → ℕ → List Float → List Float → Answer → Type 0
 LuCall a b n a' b' r = SquareCall SmallPivot (lu n a b) a b n a' b' r
 
--- `solve_normal_equations`: never 8; 9 leaves b with LU's swaps; the workspace is cleared after both
+-- `solve_normal_equations`: never 8; 9 carries LU's column and leaves b with LU's swaps; the workspace is cleared after both
 pub record NormalCall (a b : List Float) (n : ℕ) (b' w w' : List Float) (r : Answer) : Type 0 where
   pub sizes : Answer
   pub judged : sizes ≡ normal-sizes n (length a) (length b) (length w)
@@ -77,7 +77,7 @@ pub record NormalCall (a b : List Float) (n : ℕ) (b' w w' : List Float) (r : A
 -- a solution as an answer, and what it leaves in the output: a refusal leaves it unchanged
 abbrev pub least-answer : Solution → Answer
 least-answer (solved x) = Done
-least-answer (refused c) = Refused SmallPivot
+least-answer (refused c) = Refused (SmallPivot c)
 
 abbrev pub least-out : Solution → List Float → List Float
 least-out (solved x) old = x

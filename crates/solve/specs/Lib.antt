@@ -2,3 +2,4 @@
 pub mod Calls
 pub mod Sizes
 pub mod Unique
+pub mod Columns

@@ -8,8 +8,8 @@ use crate::ready::normal_ready;
 use cholesky::inner::cholesky;
 use lu::inner::lu;
 use refusal::Answer;
-use refusal::Refusal;
-use refusal::inner::answered;
+use refusal::inner::not_spd;
+use refusal::inner::small_pivot;
 
 // Solves by Cholesky: a becomes the factor, b the solution.
 pub fn solve_spd_cholesky(a: &mut [f64], b: &mut [f64], n: usize) -> Answer
@@ -19,7 +19,7 @@ pub fn solve_spd_cholesky(a: &mut [f64], b: &mut [f64], n: usize) -> Answer
     let Answer::Done = sizes else {
         return sizes;
     };
-    answered(cholesky(a, b, n), Refusal::NotSpd)
+    not_spd(cholesky(a, b, n))
 }
 
 // Solves by LU: a becomes the factors, b the solution.
@@ -30,7 +30,7 @@ pub fn solve_lu(a: &mut [f64], b: &mut [f64], n: usize) -> Answer
     let Answer::Done = sizes else {
         return sizes;
     };
-    answered(lu(a, b, n), Refusal::SmallPivot)
+    small_pivot(lu(a, b, n))
 }
 
 // Solves by Cholesky, or by LU where that refuses: b becomes the solution, a stays, and the workspace is cleared.
@@ -41,7 +41,7 @@ pub fn solve_normal_equations(a: &[f64], b: &mut [f64], n: usize, workspace: &mu
     let Answer::Done = sizes else {
         return sizes;
     };
-    answered(normal_ready(a, b, n, workspace), Refusal::SmallPivot)
+    small_pivot(normal_ready(a, b, n, workspace))
 }
 
 // The least squares solution of the m by n matrix `a` and the right-hand side `b`, into `out`.

@@ -12,8 +12,8 @@ use crate::sizes::least_need;
 use least::inner::least_of;
 use normal::inner::normal_equations;
 use refusal::Answer;
-use refusal::Refusal;
 use refusal::Solved;
+use refusal::inner::small_pivot;
 use slices::inner::clear;
 use slices::inner::copy;
 
@@ -34,8 +34,9 @@ fn least_into(a: &[f64], b: &[f64], m: usize, n: usize, out: &mut [f64], ws: &mu
     ensures { λ r. ⌜ LeastLeft (least m n (now (a .entry)) (now (b .entry))) (now (out .entry)) (now (out .exit)) r ⌝ }
 {
     let mn = a.len();
-    let Solved::Done = least_of(a, b, ws, m, n) else {
-        return Answer::Refused(Refusal::SmallPivot);
+    let solved = least_of(a, b, ws, m, n);
+    let Solved::Done = solved else {
+        return small_pivot(solved);
     };
     let last = mn + n;
     copy(&ws[mn..last], out);

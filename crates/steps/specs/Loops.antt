@@ -32,14 +32,17 @@ module _ {ℓ} {S : Type ℓ} where
   pub loop-end : (lo i hi : ℕ) (f : ℕ → S → S) (s : S) {t : S} → t ≡ loop lo i f s → i ≤ hi → hi ≤ i → t ≡ loop lo hi f s
   loop-end lo i hi f s p h k = p ∙ ap (λ (x : ℕ). loop lo x f s) (le-antisymm h k)
 
-  -- what each turn keeps, the loop keeps
-  pub loop-keeps : (P : S → Type 0) (lo hi : ℕ) (f : ℕ → S → S) (s : S) → ((i : ℕ) (t : S) → P t → P (f i t)) → P s → P (loop lo hi f s)
+  -- what each turn keeps, of those that the loop takes, the loop keeps
+  pub loop-keeps-below : (P : S → Type 0) (lo hi : ℕ) (f : ℕ → S → S) (s : S) → ((i : ℕ) (t : S) → i < hi → P t → P (f i t)) → P s → P (loop lo hi f s)
   unfolding loop turns
-  loop-keeps P lo hi f s k p = go (hi - lo)
+  loop-keeps-below P lo hi f s k p = go (hi - lo) (λ i l. omega arith)
     where
-      go : (n : ℕ) → P (turns lo n f s)
-      go zero = p
-      go (suc n) = k (lo + n) (turns lo n f s) (go n)
+      go : (n : ℕ) → ((i : ℕ) → i < n → lo + i < hi) → P (turns lo n f s)
+      go zero b = p
+      go (suc n) b = k (lo + n) (turns lo n f s) (b n (omega arith)) (go n (λ i l. b i (omega arith)))
+
+  pub loop-keeps : (P : S → Type 0) (lo hi : ℕ) (f : ℕ → S → S) (s : S) → ((i : ℕ) (t : S) → P t → P (f i t)) → P s → P (loop lo hi f s)
+  loop-keeps P lo hi f s k p = loop-keeps-below P lo hi f s (λ i t l. k i t) p
 
   -- loops whose turns are alike give the same
   pub loop-cong : (lo hi : ℕ) (f g : ℕ → S → S) (s : S) → ((i : ℕ) (t : S) → lo ≤ i → i < hi → f i t ≡ g i t) → loop lo hi f s ≡ loop lo hi g s
@@ -81,12 +84,15 @@ module _ {ℓ} {S : Type ℓ} where
   down-fixed f zero s h = refl
   down-fixed f (suc i) s h = ap (down-from i f) (h i) ∙ down-fixed f i s h
 
-  pub down-keeps : (P : S → Type 0) (n : ℕ) (f : ℕ → S → S) (s : S) → ((i : ℕ) (t : S) → P t → P (f i t)) → P s → P (down-from n f s)
+  pub down-keeps-below : (P : S → Type 0) (n : ℕ) (f : ℕ → S → S) (s : S) → ((i : ℕ) (t : S) → i < n → P t → P (f i t)) → P s → P (down-from n f s)
   unfolding down-from
-  down-keeps P zero f s k p = p
-  down-keeps P (suc n) f s k p = down-keeps P n f (f n s) k (k n s p)
+  down-keeps-below P zero f s k p = p
+  down-keeps-below P (suc n) f s k p = down-keeps-below P n f (f n s) (λ i t l. k i t (omega arith)) (k n s (omega arith) p)
 
--- The state of a loop that can be left early: still going, or stopped at a number (a refused column; no public answer tells it yet, a later order does).
+  pub down-keeps : (P : S → Type 0) (n : ℕ) (f : ℕ → S → S) (s : S) → ((i : ℕ) (t : S) → P t → P (f i t)) → P s → P (down-from n f s)
+  down-keeps P n f s k p = down-keeps-below P n f s (λ i t l. k i t) p
+
+-- The state of a loop that can be left early: still going, or stopped at a number (a refused column).
 pub data Way (S : Type 0) : Type 0 where
   going : S → Way S
   stopped : ℕ → S → Way S
@@ -95,6 +101,11 @@ pub data Way (S : Type 0) : Type 0 where
 abbrev pub final : {S : Type 0} → Way S → S
 final (going s) = s
 final (stopped c s) = s
+
+-- stopped, if at all, at a number below n
+abbrev pub StopsBelow : {S : Type 0} → ℕ → Way S → Type 0
+StopsBelow n (going s) = Unit {0}
+StopsBelow n (stopped c s) = c < n
 
 -- a turn: where it is still going, f says how it goes on
 abbrev pub onward : {S : Type 0} → (ℕ → S → Way S) → ℕ → Way S → Way S
@@ -148,3 +159,17 @@ module _ {S : Type 0} (f : ℕ → S → Way S) where
     pub way-down-keeps : (n : ℕ) (s : S) → P s → P (final (way-down n s))
     unfolding way-down
     way-down-keeps n s p = down-keeps (λ w. P (final w)) n (onward f) (going s) onward-keeps p
+
+  -- turns that stop below n: so do both
+  module _ (n : ℕ) (k : (i : ℕ) (t : S) → i < n → StopsBelow n (f i t)) where
+    onward-below : (i : ℕ) (w : Way S) → i < n → StopsBelow n w → StopsBelow n (onward f i w)
+    onward-below i (going s) l p = k i s l
+    onward-below i (stopped c s) l p = p
+
+    pub way-below : (lo : ℕ) (s : S) → StopsBelow n (way lo n s)
+    unfolding way
+    way-below lo s = loop-keeps-below (StopsBelow n) lo n (onward f) (going s) onward-below tt
+
+    pub way-down-below : (s : S) → StopsBelow n (way-down n s)
+    unfolding way-down
+    way-down-below s = down-keeps-below (StopsBelow n) n (onward f) (going s) onward-below tt

@@ -7,12 +7,14 @@ use Prim.Native.Nat.{ℕ, zero, suc, _+_, _^_, _≤_, _<_}
 use native.Mathlib.Nat.{eq-or-lt-of-le, not-suc-le-zero, lt-of-not-le}
 use native.Mathlib.Decide.{decLt}
 use native.Mathlib.Omega.{arith}
+use borrow.Author.Tests.{lt-ltb}
 use lib.Dec.{T}
 use lib.ListN.{length, getD, length-append, List·getD-append, List·getD-eq-default}
 use lib.Seq.{getD-at}
 use lib.Count.{ones}
 use Rattle.support.specs.Word.{has, bit, count, terms, place, term, term-at, full}
 use Rattle.support.specs.WordLaws.{passed, has-lt}
+use Rattle.support.specs.SupportLaws.{has-full}
 use Rattle.support.specs.CountLaws.{ones-is, place-is, count-mono, count-rises, count-full}
 
 -- ---- the list of the terms
@@ -105,6 +107,12 @@ term-at-is w c s h =
 
 pub term-at-place : (w j : ℕ) → w < 2 ^ 64 → T (has w j) → term-at w (place w j) ≡ j
 term-at-place w j s t = ap (term-at w) (place-is w j) ∙ term-of-place 64 w j (has-lt w 64 j s t) t
+
+-- every column of all n is its own term
+pub term-at-full : (n c : ℕ) → n ≤ 64 → c < n → term-at (full n) c ≡ c
+term-at-full n c l h =
+    let i = term-is 64 (full n) c (omega (arith, h, count-full n n l (omega arith), count-mono (has (full n)) n 64 l)) in
+    place-once (has (full n)) (term-at (full n) c) c (i .passes) (passed (has-full n c (omega arith) ∙ lt-ltb c n h)) (i .place ∙ sym (count-full n c l (omega arith)))
 
 -- the 64 terms that the code looks at, or the n columns of a rule: the term is the same
 pub term-at-term : (n w c : ℕ) → w < 2 ^ n → w < 2 ^ 64 → c < ones w → term-at w c ≡ term n w c

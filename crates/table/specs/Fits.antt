@@ -4,7 +4,7 @@ use mathlib.Core.Path.{_≡_, refl}
 use mathlib.Core.List.{List, [], _∷_}
 use lib.Ieee.{Float, nan}
 use lib.Count.{ones}
-use Rattle.steps.specs.Num.{lit, +zero, one}
+use Rattle.steps.specs.Num.{lit, +zero, one, -one, two}
 use Rattle.support.specs.Word as W
 use Rattle.places.specs.Columns as C
 use Rattle.sums.specs.Products as P
@@ -16,7 +16,7 @@ use Rattle.rule.specs.declared.Setup.{Setup}
 use Rattle.rule.specs.declared.Solver.{Solver}
 use Rattle.rule.specs.declared.Solver.the-variants.{Normal, Qr}
 use Rattle.rule.specs.declared.Stop.{Stop}
-use Rattle.rule.specs.declared.Stop.the-variants.{NoData, Empty, Settled, OutOfRounds}
+use Rattle.rule.specs.declared.Stop.the-variants.{NoData, FirstRefused, Empty, RefitRefused, Settled, OutOfRounds}
 use Rattle.table.specs.Solvers.{opened, three}
 
 -- all that a fit computes with
@@ -35,6 +35,9 @@ quarter = lit 0x3fd0000000000000
 
 abbrev -quarter : Float
 -quarter = lit 0xbfd0000000000000
+
+abbrev sixteen : Float
+sixteen = lit 0x4030000000000000
 
 -- a fit by a solver, of theta and target, with so many rows and columns, and a setup
 abbrev pub fit-case : Solver → List Float → List Float → ℕ → ℕ → Setup → Fit
@@ -83,3 +86,24 @@ pub G4 : fit-case Normal (one ∷ one ∷ +zero ∷ +zero ∷ one ∷ +zero ∷ 
     ≡ gives (+zero ∷ +zero ∷ three ∷ []) OutOfRounds 1 4
 unfolding fits
 G4 = refl
+
+-- G5: the refit of the second column alone is refused at its only place, 0: the report names theta's term, 1
+pub G5 : fit-case Normal (one ∷ one ∷ one ∷ +zero ∷ []) (+zero ∷ three ∷ []) 2 2 (setup-of half -one 10) ≡ gives (+zero ∷ +zero ∷ []) (RefitRefused (record { 0 = 1 })) 1 0
+unfolding fits
+G5 = refl
+
+-- G6: two ports in series, the second 2^25 times the first: Cholesky refuses at the first column, LU at the second, which is named
+pub G6 : fit-case Normal (one ∷ lit 0x4180000000000000 ∷ []) (one ∷ []) 1 2 (setup-of half +zero 10) ≡ gives (+zero ∷ +zero ∷ []) (FirstRefused (record { 0 = 1 })) 0 0
+unfolding fits
+G6 = refl
+
+-- G7: two dead ports, by least squares: back substitution meets the last one first
+pub G7 : fit-case Qr (+zero ∷ +zero ∷ []) (one ∷ []) 1 2 (setup-of half +zero 10) ≡ gives (+zero ∷ +zero ∷ []) (FirstRefused (record { 0 = 1 })) 0 0
+unfolding fits
+G7 = refl
+
+-- G8: ports 1 and 2 are alike, and rounding alone tells them apart beside port 0, which falls: their refit is refused at place 1, theta's term 2
+pub G8 : fit-case Qr (one ∷ sixteen ∷ sixteen ∷ +zero ∷ +zero ∷ +zero ∷ two ∷ +zero ∷ +zero ∷ []) (+zero ∷ one ∷ +zero ∷ []) 3 3 (setup-of half +zero 10)
+    ≡ gives (+zero ∷ +zero ∷ +zero ∷ []) (RefitRefused (record { 0 = 2 })) 1 0
+unfolding fits
+G8 = refl

@@ -31,8 +31,8 @@ pub record Marked : Type 0 where
   pub F3 : fit-case Normal theta1 target1 2 2 (setup-of half +zero 1) ≡ gives (three ∷ +zero ∷ []) Settled 1 1
   -- F1, threshold 4: zeros, Empty, 0, word 0
   pub F4 : fit-case Normal theta1 target1 2 2 (setup-of four +zero 10) ≡ gives (+zero ∷ +zero ∷ []) Empty 0 0
-  -- 1×1: theta 0, target 1, lambda 0: zero, FirstRefused, 0, word 0
-  pub F5 : fit-case Normal (+zero ∷ []) (one ∷ []) 1 1 (setup-of half +zero 1) ≡ gives (+zero ∷ []) FirstRefused 0 0
+  -- 1×1: theta 0, target 1, lambda 0: zero, FirstRefused (at term 0), 0, word 0
+  pub F5 : fit-case Normal (+zero ∷ []) (one ∷ []) 1 1 (setup-of half +zero 1) ≡ gives (+zero ∷ []) (FirstRefused (record { 0 = 0 })) 0 0
   -- 1×1: theta 1, target 0.5, at the threshold: 0.5, Settled, 1
   pub F6 : fit-case Normal (one ∷ []) (half ∷ []) 1 1 (setup-of half +zero 2) ≡ gives (half ∷ []) Settled 1 1
   -- 1×1: theta 0, target 1, lambda -1, threshold 0: -0.0, OutOfRounds, word 1

@@ -12,7 +12,7 @@ use Rattle.hex.specs.Put.{Written, put-none, written-then}
 use Rattle.hex.specs.ReadBack.{length-digits}
 use Rattle.refusal.specs.Answers.{number}
 use Rattle.refusal.specs.declared.Refusal.{Refusal}
-use Rattle.rule.specs.Codes.{stop-code}
+use Rattle.rule.specs.Codes.{stop-code, stop-term}
 use Rattle.rule.specs.declared.Report.{Report}
 use Rattle.writer.specs.Lines.{lines-append}
 use Rattle.writer.specs.Answer.{refusal-line, report-line, coefficient-lines, coefficient-bytes}
@@ -23,10 +23,13 @@ unfolding refusal-line
 refusal-written w e f g = written-then (omega arith) f (rw e at g)
 
 -- the pieces of a report's line
-pub report-written : {code count m k r : ℕ} {was mid end out : List ℕ} (report : Report) → code ≡ stop-code (report .stop) → count ≡ report .refits
-    → Written 0 (digits 2 code) was mid m → Written m (digits 4 count) mid end k → Written k (line 16 (report .kept .0)) end out r → Written 0 (report-line report) was out r
+pub report-written : {code count term m k l r : ℕ} {was mid most end out : List ℕ} (report : Report)
+    → code ≡ stop-code (report .stop) → count ≡ report .refits → term ≡ stop-term (report .stop)
+    → Written 0 (digits 2 code) was mid m → Written m (digits 4 count) mid most k → Written k (digits 16 (report .kept .0)) most end l → Written l (line 2 term) end out r
+    → Written 0 (report-line report) was out r
 unfolding report-line
-report-written report e e' f g h = written-then (omega arith) (written-then (omega arith) (rw e at f) (rw e' at g)) h
+report-written report e e' e'' f g h i =
+    written-then (omega arith) (written-then (omega arith) (written-then (omega arith) (rw e at f) (rw e' at g)) h) (rw e'' at i)
 
 -- the lines of one coefficient
 one-line : (x : Float) → coefficient-lines (x ∷ []) ≡ line 16 (bits x)

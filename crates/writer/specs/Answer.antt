@@ -5,20 +5,20 @@ use lib.Ieee.{Float}
 use Rattle.hex.specs.Hex.{digits, bits, line}
 use Rattle.refusal.specs.Answers.{number}
 use Rattle.refusal.specs.declared.Refusal.{Refusal}
-use Rattle.rule.specs.Codes.{stop-code}
+use Rattle.rule.specs.Codes.{stop-code, stop-term}
 use Rattle.rule.specs.declared.Report.{Report}
 
 -- a refusal prints only ff and its number in two digits
 unfoldable pub refusal-line : Refusal → List ℕ
 refusal-line w = digits 2 0xff ++ line 2 (number w)
 
--- stop (2), refits (4), kept word (16)
+-- stop (2), refits (4), kept word (16), refused term (2)
 unfoldable pub report-line : Report → List ℕ
-report-line r = digits 2 (stop-code (r .stop)) ++ digits 4 (r .refits) ++ line 16 (r .kept .0)
+report-line r = digits 2 (stop-code (r .stop)) ++ digits 4 (r .refits) ++ digits 16 (r .kept .0) ++ line 2 (stop-term (r .stop))
 
 -- its bytes, with the newline
 abbrev pub report-bytes : ℕ
-report-bytes = 2 + 4 + 16 + 1
+report-bytes = 2 + 4 + 16 + 2 + 1
 
 -- a line of 16 digits for each coefficient
 unfoldable pub coefficient-lines : List Float → List ℕ

@@ -16,7 +16,9 @@ pub struct Call {
     pub writes: Vec<Slice>,
     /// The workspace and the length of it that is needed.
     pub workspace: Option<(Slice, usize)>,
-    pub report: [u64; 3],
+    pub report: [u64; 4],
+    /// The column at which a solver refused.
+    pub column: [u64; 1],
 }
 
 /// One export: how its calls are made, how the library runs one, and how the model does. Both give the answer.

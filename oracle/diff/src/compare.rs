@@ -7,7 +7,7 @@ use oracle::bits::{first_difference, same};
 /// The answers that leave every slice unchanged.
 const NOTHING_CHANGED: [u64; 8] = [1, 2, 3, 4, 5, 6, 7, 10];
 
-/// The first thing in which a call differs from the model: answer, slices, report, guards.
+/// The first thing in which a call differs from the model: answer, slices, column, report, guards.
 ///
 /// Computed numbers in slices may be any NaN for any NaN. What must stay unchanged keeps its bits.
 pub fn difference(before: &Call, got: (&Call, u64), expected: (&Call, u64)) -> Option<String> {
@@ -39,6 +39,15 @@ pub fn difference(before: &Call, got: (&Call, u64), expected: (&Call, u64)) -> O
     reads
         .or_else(writes)
         .or_else(|| workspace(before, got, expected, unchanged))
+        .or_else(|| {
+            let column = got.column != expected.column;
+            column.then(|| {
+                format!(
+                    "the column is {:x?} and should be {:x?}",
+                    got.column, expected.column
+                )
+            })
+        })
         .or_else(|| {
             let report = got.report != expected.report;
             report.then(|| {

@@ -1,6 +1,7 @@
 //! `qr` and `solve_least_squares`.
 
 use super::{Answer, clear, refuse_if};
+use crate::columns;
 use crate::linalg;
 use crate::refusal::{MAX_COLS, MAX_QR_ROWS, Refusal};
 
@@ -32,6 +33,7 @@ pub fn solve_least_squares(
     n: usize,
     out: &mut [f64],
     workspace: &mut [f64],
+    column: &mut u64,
 ) -> Answer {
     refuse_if(n > MAX_COLS, Refusal::Columns)?;
     refuse_if(m > MAX_QR_ROWS, Refusal::Rows)?;
@@ -43,6 +45,10 @@ pub fn solve_least_squares(
     refuse_if(workspace.len() < needed, Refusal::Workspace)?;
     let solved = linalg::solve_least_squares(a, b, m, n);
     clear(workspace, needed);
-    out.copy_from_slice(&solved.map_err(|_| Refusal::SmallPivot)?);
+    let Ok(x) = solved else {
+        *column = columns::of_least(a, m, n) as u64;
+        return Err(Refusal::SmallPivot);
+    };
+    out.copy_from_slice(&x);
     Ok(())
 }

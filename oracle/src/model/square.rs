@@ -2,6 +2,7 @@
 
 use super::{Answer, clear, refuse_if};
 use crate::bits::quiet;
+use crate::columns;
 use crate::error::EmlError;
 use crate::linalg;
 use crate::refusal::{MAX_COLS, Refusal};
@@ -12,22 +13,40 @@ fn sizes(a: &[f64], b: &[f64], n: usize) -> Answer {
     refuse_if(b.len() != n, Refusal::RightHandSide)
 }
 
-pub fn solve_spd_cholesky(a: &mut [f64], b: &mut [f64], n: usize) -> Answer {
+pub fn solve_spd_cholesky(a: &mut [f64], b: &mut [f64], n: usize, column: &mut u64) -> Answer {
     sizes(a, b, n)?;
-    a.copy_from_slice(&quiet(a));
-    numbered(linalg::solve_spd_cholesky(a, b, n))
+    let matrix = quiet(a);
+    a.copy_from_slice(&matrix);
+    let answer = numbered(linalg::solve_spd_cholesky(a, b, n));
+    if answer.is_err() {
+        *column = columns::cholesky(&matrix, a, n) as u64;
+    }
+    answer
 }
 
-pub fn solve_lu(a: &mut [f64], b: &mut [f64], n: usize) -> Answer {
+pub fn solve_lu(a: &mut [f64], b: &mut [f64], n: usize, column: &mut u64) -> Answer {
     sizes(a, b, n)?;
-    numbered(linalg::solve_lu(a, b, n))
+    let answer = numbered(linalg::solve_lu(a, b, n));
+    if answer.is_err() {
+        *column = columns::lu(a, n) as u64;
+    }
+    answer
 }
 
-pub fn solve_normal_equations(a: &[f64], b: &mut [f64], n: usize, workspace: &mut [f64]) -> Answer {
+pub fn solve_normal_equations(
+    a: &[f64],
+    b: &mut [f64],
+    n: usize,
+    workspace: &mut [f64],
+    column: &mut u64,
+) -> Answer {
     sizes(a, b, n)?;
     refuse_if(workspace.len() < n * n, Refusal::Workspace)?;
     let answer = numbered(linalg::solve_normal_equations(&quiet(a), b, n));
     clear(workspace, n * n);
+    if answer.is_err() {
+        *column = columns::of_lu(a.to_vec(), n) as u64;
+    }
     answer
 }
 
@@ -52,7 +71,7 @@ mod tests {
         let matrix = [0.0, 0.0, 0.0, f64::from_bits(0x7ff0_0000_0000_0001)];
         let (mut a, mut b) = (matrix, [1.0, 1.0]);
         assert_eq!(
-            solve_spd_cholesky(&mut a, &mut b, 2),
+            solve_spd_cholesky(&mut a, &mut b, 2, &mut 0),
             Err(Refusal::Cholesky)
         );
         let (mut a, mut b) = (matrix, [1.0, 1.0]);

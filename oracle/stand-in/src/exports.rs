@@ -36,6 +36,33 @@ fn refused(number: u64, out: &mut [f64], workspace: &mut [f64]) -> u64 {
     number
 }
 
+/// A solver's answer; the column is told where it refused by its numbers.
+unsafe fn told(number: u64, solved: Result<(), usize>, column: *mut [u64; 1]) -> u64 {
+    let Err(col) = solved else {
+        if fault::is(Fault::ColumnToldWhenAccepted) {
+            unsafe { *column = [0] };
+        }
+        return 0;
+    };
+    if !fault::is(Fault::ColumnNotTold) {
+        unsafe { *column = [fault::or(col, Fault::ColumnFromOne, col + 1) as u64] };
+    }
+    number
+}
+
+/// A solver's refusal by size.
+unsafe fn untold(
+    number: u64,
+    out: &mut [f64],
+    workspace: &mut [f64],
+    column: *mut [u64; 1],
+) -> u64 {
+    if fault::is(Fault::ColumnToldWhenRefusedBySize) {
+        unsafe { *column = [0] };
+    }
+    refused(number, out, workspace)
+}
+
 #[unsafe(no_mangle)]
 pub extern "C" fn dapmotar_sqrt(x: f64) -> f64 {
     root::sqrt(x)
@@ -107,7 +134,7 @@ fn square_sizes(a_len: usize, b_len: usize, n: usize) -> Sizes {
 }
 
 macro_rules! square_solvers {
-    ($($name:ident: $solve:path;)*) => {$(
+    ($($name:ident: $solve:path, $number:literal;)*) => {$(
         #[unsafe(no_mangle)]
         pub unsafe extern "C" fn $name(
             a: *mut f64,
@@ -115,20 +142,21 @@ macro_rules! square_solvers {
             b: *mut f64,
             b_len: usize,
             n: usize,
+            column: *mut [u64; 1],
         ) -> u64 {
             let (a, b) = unsafe { (part_mut(a, a_len), part_mut(b, b_len)) };
             let sizes = square_sizes(a_len, b_len, n);
             if sizes.first() != 0 {
-                return refused(sizes.first(), b, &mut []);
+                return unsafe { untold(sizes.first(), b, &mut [], column) };
             }
-            $solve(a, b, n)
+            unsafe { told($number, $solve(a, b, n), column) }
         }
     )*};
 }
 
 square_solvers! {
-    dapmotar_solve_spd_cholesky: square::cholesky;
-    dapmotar_solve_lu: square::lu;
+    dapmotar_solve_spd_cholesky: square::cholesky, 8;
+    dapmotar_solve_lu: square::lu, 9;
 }
 
 #[unsafe(no_mangle)]
@@ -140,16 +168,17 @@ pub unsafe extern "C" fn dapmotar_solve_normal_equations(
     n: usize,
     workspace: *mut f64,
     workspace_len: usize,
+    column: *mut [u64; 1],
 ) -> u64 {
     let (matrix, b) = unsafe { (part(a, a_len), part_mut(b, b_len)) };
     let workspace = unsafe { part_mut(workspace, workspace_len) };
     let mut sizes = square_sizes(a_len, b_len, n);
     sizes.workspace(workspace_len, n.wrapping_mul(n));
     if sizes.first() != 0 {
-        return refused(sizes.first(), b, workspace);
+        return unsafe { untold(sizes.first(), b, workspace, column) };
     }
     workspace[..(n * n).min(workspace_len)].fill(7.0);
-    let answer = square::normal_equations(matrix, b, n);
+    let answer = unsafe { told(9, square::normal_equations(matrix, b, n), column) };
     if fault::is(Fault::ReadOnlyMatrixWritten) && n > 0 {
         unsafe { *a.cast_mut() += 1.0 };
     }
@@ -215,6 +244,7 @@ pub unsafe extern "C" fn dapmotar_solve_least_squares(
     out_len: usize,
     workspace: *mut f64,
     workspace_len: usize,
+    column: *mut [u64; 1],
 ) -> u64 {
     let (a, b) = unsafe { (part(a, a_len), part(b, b_len)) };
     let (out, workspace) = unsafe { (part_mut(out, out_len), part_mut(workspace, workspace_len)) };
@@ -231,24 +261,20 @@ pub unsafe extern "C" fn dapmotar_solve_least_squares(
     sizes.tall(m, n);
     sizes.workspace(workspace_len, needed);
     if sizes.first() != 0 {
-        return refused(sizes.first(), out, workspace);
+        return unsafe { untold(sizes.first(), out, workspace, column) };
     }
     if m < n {
         return 0;
     }
     workspace[..needed.min(workspace_len)].fill(7.0);
-    let Some(x) = qr::least_squares(a, b, m, n) else {
-        if fault::is(Fault::BackOutputTouched) {
-            out.fill(0.0);
-        }
-        if !fault::is(Fault::WorkspaceNotClearedAfterRefusal) {
-            clear(workspace, needed);
-        }
-        return 9;
-    };
-    out.copy_from_slice(&x);
-    clear(workspace, needed);
-    0
+    let solved = qr::least_squares(a, b, m, n).map(|x| out.copy_from_slice(&x));
+    if solved.is_err() && fault::is(Fault::BackOutputTouched) {
+        out.fill(0.0);
+    }
+    if !(solved.is_err() && fault::is(Fault::WorkspaceNotClearedAfterRefusal)) {
+        clear(workspace, needed);
+    }
+    unsafe { told(9, solved, column) }
 }
 
 /// Either fit, its sizes tested and its slices written.
@@ -256,7 +282,7 @@ unsafe fn fit(
     fit: Fit<'_>,
     coeffs: &mut [f64],
     workspace: &mut [f64],
-    report: *mut [u64; 3],
+    report: *mut [u64; 4],
 ) -> u64 {
     let needed = needed_by(fit.by_qr, fit.rows, fit.cols);
     let mut sizes = Sizes::default();
@@ -269,7 +295,7 @@ unsafe fn fit(
     sizes.workspace(workspace.len(), needed);
     if sizes.first() != 0 {
         if fault::is(Fault::ReportWrittenWhenRefused) {
-            unsafe { *report = [0; 3] };
+            unsafe { *report = [0; 4] };
         }
         return refused(sizes.first(), coeffs, workspace);
     }
@@ -312,7 +338,7 @@ macro_rules! fits {
             coeffs_len: usize,
             workspace: *mut f64,
             workspace_len: usize,
-            report: *mut [u64; 3],
+            report: *mut [u64; 4],
         ) -> u64 {
             unsafe {
                 let problem = Fit {
@@ -366,10 +392,10 @@ pub extern "C" fn dapmotar_strlsq_qr_workspace(n_rows: usize, n_cols: usize) -> 
 pub unsafe extern "C" fn dapmotar_respond(
     input: *const u8,
     input_len: usize,
-    answer: *mut [u8; 295],
+    answer: *mut [u8; 297],
 ) -> usize {
     let text = crate::frames::respond(unsafe { part(input, input_len) });
-    // Not into an array of 295: one of the faults answers at greater length.
+    // Not into an array of 297: one of the faults answers at greater length.
     unsafe { answer.cast::<u8>().copy_from(text.as_ptr(), text.len()) };
     text.len()
 }

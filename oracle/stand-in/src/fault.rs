@@ -101,6 +101,14 @@ faults! {
     BackNoTest
     BackFromFirst
     BackOutputTouched
+    // The column of a refusal.
+    ColumnNotTold
+    ColumnFromOne
+    ColumnToldWhenAccepted
+    ColumnToldWhenRefusedBySize
+    ColumnIsPivotRow
+    ColumnOfCholesky
+    ColumnFirstFromAbove
     // The fits.
     LookStrict
     LookKeepsNan
@@ -129,6 +137,11 @@ faults! {
     LambdaNotRooted
     LambdaOnlyAtFirst
     OldValuesStay
+    TermIsPlace
+    TermIsPlaceByQr
+    TermNotToldAtFirst
+    TermNotToldAtRefit
+    TermAtEveryStop
     RefusesAll
     AlwaysZeros
     WritesNothing
@@ -140,6 +153,9 @@ faults! {
     FrameLastNewlineMissing
     FrameNanOtherBits
     FrameKeptShort
+    FrameTermMissing
+    FrameTermDecimal
+    FrameTermBeforeKept
     FrameUpperAccepted
     FrameCrlfAccepted
     FrameTailAccepted

@@ -19,6 +19,9 @@ pub struct Fit<'a> {
     pub max_iter: usize,
 }
 
+/// The refused term of a report where no solve was refused.
+const NO_TERM: u64 = 255;
+
 /// A term's bit; none past 64.
 fn bit(j: usize) -> u64 {
     1u64.checked_shl(j as u32).unwrap_or(0)
@@ -41,13 +44,14 @@ pub fn workspace(by_qr: bool, r: usize, c: usize) -> usize {
 }
 
 impl Fit<'_> {
-    /// The coefficients into their slice, and the report: stop, refits, kept word.
-    pub fn run(&self, coeffs: &mut [f64]) -> [u64; 3] {
+    /// The coefficients into their slice, and the report: stop, refits, kept word, refused term.
+    pub fn run(&self, coeffs: &mut [f64]) -> [u64; 4] {
         if !fault::is(Fault::OldValuesStay) {
             coeffs.fill(0.0);
         }
         let mut last = 0;
-        let (mut stop, mut refits) = self.rounds(coeffs, &mut last);
+        let mut term = NO_TERM;
+        let (mut stop, mut refits) = self.rounds(coeffs, &mut last, &mut term);
         for c in coeffs.iter_mut() {
             let small = abs(*c) < self.threshold
                 || abs(*c) == self.threshold && fault::is(Fault::LastPassLessOrEqual);
@@ -75,17 +79,29 @@ impl Fit<'_> {
         if fault::is(Fault::RefitsInvented) {
             refits = (self.max_iter as u64).min(1);
         }
-        [stop, refits, kept]
+        if fault::is(Fault::TermAtEveryStop) && term == NO_TERM {
+            term = 0;
+        }
+        if fault::is(Fault::TermNotToldAtFirst) && stop == 1
+            || fault::is(Fault::TermNotToldAtRefit) && stop == 3
+        {
+            term = NO_TERM;
+        }
+        [stop, refits, kept, term]
     }
 
-    /// The first solve and the rounds: stop and refits.
-    fn rounds(&self, coeffs: &mut [f64], last: &mut u64) -> (u64, u64) {
+    /// The first solve and the rounds: stop and refits, and the term of a refused solve.
+    fn rounds(&self, coeffs: &mut [f64], last: &mut u64, term: &mut u64) -> (u64, u64) {
         if self.rows == 0 || self.cols == 0 {
             return (0, 0);
         }
         let all: Vec<usize> = (0..self.cols).collect();
-        let Some(values) = self.solve(&all, false) else {
-            return (1, 0);
+        let values = match self.solve(&all, false) {
+            Ok(values) => values,
+            Err(col) => {
+                *term = col as u64;
+                return (1, 0);
+            }
         };
         coeffs.copy_from_slice(&values);
         let mut refits = 0;
@@ -117,14 +133,21 @@ impl Fit<'_> {
                 continue;
             }
             let terms: Vec<usize> = (0..self.cols).filter(|&j| support & bit(j) != 0).collect();
-            let Some(values) = self.solve(&terms, true) else {
-                if !fault::is(Fault::RefusedRefitKeepsValues) {
-                    coeffs.fill(0.0);
+            let values = match self.solve(&terms, true) {
+                Ok(values) => values,
+                Err(col) => {
+                    let place = if self.by_qr {
+                        Fault::TermIsPlaceByQr
+                    } else {
+                        Fault::TermIsPlace
+                    };
+                    *term = fault::or(terms[col], place, col) as u64;
+                    if !fault::is(Fault::RefusedRefitKeepsValues) {
+                        coeffs.fill(0.0);
+                    }
+                    let counted = fault::or(refits, Fault::RefusedRefitNotCounted, refits - 1);
+                    return (3, counted);
                 }
-                return (
-                    3,
-                    fault::or(refits, Fault::RefusedRefitNotCounted, refits - 1),
-                );
             };
             coeffs.fill(0.0);
             for (col, &term_idx) in terms.iter().enumerate() {
@@ -169,8 +192,8 @@ impl Fit<'_> {
         (0..self.cols).filter(kept).fold(0, |w, j| w | bit(j))
     }
 
-    /// The solve over some columns.
-    fn solve(&self, terms: &[usize], again: bool) -> Option<Vec<f64>> {
+    /// The solve over some columns, or the place among them at which it refused.
+    fn solve(&self, terms: &[usize], again: bool) -> Result<Vec<f64>, usize> {
         let lambda = if again && fault::is(Fault::LambdaOnlyAtFirst) {
             0.0
         } else {
@@ -185,7 +208,7 @@ impl Fit<'_> {
             let (mut a, mut b) = (vec![0.0; c * c], vec![0.0; c]);
             jtj(&part, r, c, lambda, &mut a);
             jtr(&part, self.target, r, c, &mut b);
-            return (normal_equations(&a, &mut b, c) == 0).then_some(b);
+            return normal_equations(&a, &mut b, c).map(|()| b);
         }
         let root = fault::or(sqrt(lambda), Fault::LambdaNotRooted, lambda);
         for i in 0..c {

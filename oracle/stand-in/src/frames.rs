@@ -38,12 +38,25 @@ impl Problem {
             lambda: self.lambda,
             max_iter: self.max_iter,
         };
-        let [stop, refits, kept] = fit.run(&mut coeffs);
-        let mut text = if fault::is(Fault::FrameKeptShort) {
-            format!("{stop:02x}{refits:04x}{kept:x}\n")
+        let [stop, refits, kept, term] = fit.run(&mut coeffs);
+        let kept = if fault::is(Fault::FrameKeptShort) {
+            format!("{kept:x}")
         } else {
-            format!("{stop:02x}{refits:04x}{kept:016x}\n")
+            format!("{kept:016x}")
         };
+        let term = if fault::is(Fault::FrameTermMissing) {
+            String::new()
+        } else if term != 255 && fault::is(Fault::FrameTermDecimal) {
+            format!("{term:02}")
+        } else {
+            format!("{term:02x}")
+        };
+        let first = if fault::is(Fault::FrameTermBeforeKept) {
+            term + &kept
+        } else {
+            kept + &term
+        };
+        let mut text = format!("{stop:02x}{refits:04x}{first}\n");
         for c in coeffs {
             let one = fault::or(0x7ff8 << 48, Fault::FrameNanOtherBits, 0xfff8 << 48);
             let bits = if c.is_nan() { one } else { c.to_bits() };

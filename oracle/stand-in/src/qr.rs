@@ -83,8 +83,8 @@ fn q_transpose(data: &[f64], betas: &[f64], b: &mut [f64], m: usize, n: usize) {
     }
 }
 
-/// The least-squares solution, or nothing where back substitution refuses.
-pub fn least_squares(a: &[f64], b: &[f64], m: usize, n: usize) -> Option<Vec<f64>> {
+/// The least-squares solution, or the column at which back substitution refuses.
+pub fn least_squares(a: &[f64], b: &[f64], m: usize, n: usize) -> Result<Vec<f64>, usize> {
     let (mut data, mut betas, mut x) = (a.to_vec(), vec![0.0; n], b.to_vec());
     qr(&mut data, &mut betas, m, n);
     q_transpose(&data, &betas, &mut x, m, n);
@@ -94,23 +94,28 @@ pub fn least_squares(a: &[f64], b: &[f64], m: usize, n: usize) -> Option<Vec<f64
         (r < 1e-15 || r == 1e-15 && fault::is(Fault::BackLessOrEqual))
             && !fault::is(Fault::BackNoTest)
     };
+    // Every column behind j was accepted, so the first from above is j or before it.
+    let met = |j: usize| {
+        let above = (0..j).find(|&i| small(i));
+        fault::or(j, Fault::ColumnFirstFromAbove, above.unwrap_or(j))
+    };
     if fault::is(Fault::BackFromFirst) {
         for j in (0..n).rev() {
             if small(j) {
-                return None;
+                return Err(met(j));
             }
             x[j] = (j + 1..n).fold(x[j], |s, q| s - data[j * n + q] * x[q]) / data[j * n + j];
         }
-        return Some(x);
+        return Ok(x);
     }
     for j in (0..n).rev() {
         if small(j) {
-            return None;
+            return Err(met(j));
         }
         x[j] /= data[j * n + j];
         for i in 0..j {
             x[i] -= data[i * n + j] * x[j];
         }
     }
-    Some(x)
+    Ok(x)
 }

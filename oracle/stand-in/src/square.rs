@@ -1,10 +1,10 @@
-//! Cholesky, LU and the normal equations. Each says whether it refused.
+//! Cholesky, LU and the normal equations. Each says at which column it refused.
 
 use crate::fault::{self, Fault};
 use crate::root::{abs, sqrt};
 
-/// Cholesky in place; 8 where it refuses.
-pub fn cholesky(a: &mut [f64], b: &mut [f64], n: usize) -> u64 {
+/// Cholesky in place.
+pub fn cholesky(a: &mut [f64], b: &mut [f64], n: usize) -> Result<(), usize> {
     let bound = 1e-14 * scale(a, n);
     for j in 0..n {
         let sum = (0..j).fold(a[j * n + j], |s, k| s - a[j * n + k] * a[j * n + k]);
@@ -22,7 +22,7 @@ pub fn cholesky(a: &mut [f64], b: &mut [f64], n: usize) -> u64 {
             if fault::is(Fault::CholeskyRightHandSideLost) && n > 0 {
                 b[0] = 0.0;
             }
-            return 8;
+            return Err(j);
         }
         a[j * n + j] = sqrt(sum);
         for i in j + 1..n {
@@ -39,7 +39,7 @@ pub fn cholesky(a: &mut [f64], b: &mut [f64], n: usize) -> u64 {
     for i in (0..n).rev() {
         b[i] = (i + 1..n).fold(b[i], |s, k| s - a[k * n + i] * b[k]) / a[i * n + i];
     }
-    0
+    Ok(())
 }
 
 /// The largest of 1 and the magnitudes on the diagonal, NaN passed over.
@@ -59,13 +59,13 @@ fn scale(a: &[f64], n: usize) -> f64 {
     fault::or(scale, Fault::CholeskyNoScale, 1.0)
 }
 
-/// LU in place; 9 where it refuses.
-pub fn lu(a: &mut [f64], b: &mut [f64], n: usize) -> u64 {
+/// LU in place.
+pub fn lu(a: &mut [f64], b: &mut [f64], n: usize) -> Result<(), usize> {
     for k in 0..n {
         let row = pivot(a, n, k);
         let greatest = abs(a[row * n + k]);
         if greatest < 1e-15 || greatest == 1e-15 && fault::is(Fault::PivotLessOrEqual) {
-            return 9;
+            return Err(fault::or(k, Fault::ColumnIsPivotRow, row));
         }
         if row != k {
             let from = fault::or(0, Fault::SwapRightPartOnly, k);
@@ -88,14 +88,14 @@ pub fn lu(a: &mut [f64], b: &mut [f64], n: usize) -> u64 {
     for i in (0..n).rev() {
         let diagonal = a[i * n + i];
         if fault::is(Fault::LuBackTestsDiagonal) && !(abs(diagonal) >= 1e-15) {
-            return 9;
+            return Err(i);
         }
         b[i] = (i + 1..n).fold(b[i], |s, k| s - a[i * n + k] * b[k]) / diagonal;
     }
     if fault::is(Fault::LuFactorsNotKept) {
         (0..n).for_each(|i| (0..i).for_each(|k| a[i * n + k] = 0.0));
     }
-    0
+    Ok(())
 }
 
 /// The first row of greatest magnitude from the diagonal down.
@@ -121,13 +121,14 @@ fn pivot(a: &[f64], n: usize, k: usize) -> usize {
 }
 
 /// Cholesky on a copy; on its refusal LU on a fresh copy and the untouched b.
-pub fn normal_equations(a: &[f64], b: &mut [f64], n: usize) -> u64 {
+pub fn normal_equations(a: &[f64], b: &mut [f64], n: usize) -> Result<(), usize> {
     let mut copy = a.to_vec();
-    if cholesky(&mut copy, b, n) == 0 {
-        return 0;
-    }
+    let Err(by_cholesky) = cholesky(&mut copy, b, n) else {
+        return Ok(());
+    };
     if !fault::is(Fault::LuOnOverwritten) {
         copy.copy_from_slice(a);
     }
-    lu(&mut copy, b, n)
+    let by_lu = lu(&mut copy, b, n);
+    by_lu.map_err(|col| fault::or(col, Fault::ColumnOfCholesky, by_cholesky))
 }

@@ -23,8 +23,8 @@ lu-requires c κs =
     let fits = square-fits (accepted .before .before .square-sizes .ensures) (accepted .enum-told .given .1) in
     (fits .square, fits .column)
 
-answered-requires : tie.Need-answered-requires
-answered-requires c κs = search needs
+small-pivot-requires : tie.Need-small-pivot-requires
+small-pivot-requires c κs = search needs
 
 same-length : tie.Need-same-length
 same-length c = search needs
@@ -36,9 +36,9 @@ returns-2 : tie.Need-returns-2
 returns-2 c =
     let solve = c .before .before .before .before .before in
     let accepted = solve .before .before .before in
-    square-solved (accepted .before .before .square-sizes .ensures) (solve .lu .result) (accepted .enum-told .given .1) (solve .lu .ensures) (c .answered .ensures)
+    square-solved (accepted .before .before .square-sizes .ensures) (solve .lu .result) (accepted .enum-told .given .1) (solve .lu .ensures) (c .small-pivot .ensures)
 
 pub solve-lu-spec : {M : Type 1} → statement M
 solve-lu-spec =
     tie.close
-    (tie.spec square-sizes-requires enum-told enum-told-2 returns lu-requires answered-requires same-length same-length-2 returns-2)
+    (tie.spec square-sizes-requires enum-told enum-told-2 returns lu-requires small-pivot-requires same-length same-length-2 returns-2)

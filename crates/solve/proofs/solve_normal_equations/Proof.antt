@@ -22,8 +22,8 @@ normal-ready-requires c κs =
     let accepted = c .before .before in
     normal-fits (accepted .before .before .normal-sizes .ensures) (accepted .enum-told .given .1)
 
-answered-requires : tie.Need-answered-requires
-answered-requires c κs = search needs
+small-pivot-requires : tie.Need-small-pivot-requires
+small-pivot-requires c κs = search needs
 
 same-length : tie.Need-same-length
 same-length c = search needs
@@ -36,9 +36,9 @@ returns-2 c =
     let solve = c .before .before .before .before .before in
     let accepted = solve .before .before .before in
     let ended = solve .normal-ready .ensures in
-    normal-solved (accepted .before .before .normal-sizes .ensures) (solve .normal-ready .result) (accepted .enum-told .given .1) (ended .0) (ended .1) (c .answered .ensures)
+    normal-solved (accepted .before .before .normal-sizes .ensures) (solve .normal-ready .result) (accepted .enum-told .given .1) (ended .0) (ended .1) (c .small-pivot .ensures)
 
 pub solve-normal-equations-spec : {M : Type 1} → statement M
 solve-normal-equations-spec =
     tie.close
-    (tie.spec normal-sizes-requires enum-told enum-told-2 returns normal-ready-requires answered-requires same-length same-length-2 returns-2)
+    (tie.spec normal-sizes-requires enum-told enum-told-2 returns normal-ready-requires small-pivot-requires same-length same-length-2 returns-2)

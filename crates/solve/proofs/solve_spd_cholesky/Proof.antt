@@ -23,8 +23,8 @@ cholesky-requires c κs =
     let fits = square-fits (accepted .before .before .square-sizes .ensures) (accepted .enum-told .given .1) in
     (fits .square, fits .column)
 
-answered-requires : tie.Need-answered-requires
-answered-requires c κs = search needs
+not-spd-requires : tie.Need-not-spd-requires
+not-spd-requires c κs = search needs
 
 same-length : tie.Need-same-length
 same-length c = search needs
@@ -36,9 +36,9 @@ returns-2 : tie.Need-returns-2
 returns-2 c =
     let solve = c .before .before .before .before .before in
     let accepted = solve .before .before .before in
-    square-solved (accepted .before .before .square-sizes .ensures) (solve .cholesky .result) (accepted .enum-told .given .1) (solve .cholesky .ensures) (c .answered .ensures)
+    square-solved (accepted .before .before .square-sizes .ensures) (solve .cholesky .result) (accepted .enum-told .given .1) (solve .cholesky .ensures) (c .not-spd .ensures)
 
 pub solve-spd-cholesky-spec : {M : Type 1} → statement M
 solve-spd-cholesky-spec =
     tie.close
-    (tie.spec square-sizes-requires enum-told enum-told-2 returns cholesky-requires answered-requires same-length same-length-2 returns-2)
+    (tie.spec square-sizes-requires enum-told enum-told-2 returns cholesky-requires not-spd-requires same-length same-length-2 returns-2)

@@ -56,7 +56,8 @@ fn make_jtj(rng: &mut Rng) -> Call {
         reads: vec![given(rng, "jac", &jac)],
         writes: vec![junk(rng, "out", out_len)],
         workspace: None,
-        report: [0; 3],
+        report: [0; 4],
+        column: [0],
     }
 }
 
@@ -73,7 +74,8 @@ fn make_jtr(rng: &mut Rng) -> Call {
         reads: vec![given(rng, "jac", &jac), given(rng, "r", &r)],
         writes: vec![junk(rng, "out", out_len)],
         workspace: None,
-        report: [0; 3],
+        report: [0; 4],
+        column: [0],
     }
 }
 

@@ -110,7 +110,8 @@ fn call(
         reads: vec![given(rng, "theta", theta), given(rng, "target", target)],
         writes: vec![junk(rng, "coeffs", coeffs_len)],
         workspace: Some((junk(rng, "workspace", workspace_len), needed)),
-        report: [rng.word(), rng.word(), rng.word()],
+        report: [rng.word(), rng.word(), rng.word(), rng.word()],
+        column: [0],
     }
 }
 
@@ -159,7 +160,7 @@ fn run_model(call: &mut Call, solver: Solver) -> u64 {
     );
     match answer {
         Ok(report) => {
-            call.report = [report.stop.code(), report.refits, report.kept];
+            call.report = [report.stop.code(), report.refits, report.kept, report.term];
             0
         }
         Err(refusal) => refusal.number(),

@@ -44,6 +44,7 @@ pub const LEAST_SQUARES: Function = Function {
             call.sizes[1],
             call.writes[0].numbers_mut(),
             workspace.numbers_mut(),
+            &mut call.column[0],
         ))
     },
     label: number_label,
@@ -85,7 +86,8 @@ fn make_qr(rng: &mut Rng) -> Call {
         reads: vec![a],
         writes: vec![junk(rng, "data", data_len), junk(rng, "betas", betas_len)],
         workspace: Some((junk(rng, "workspace", workspace_len), m)),
-        report: [0; 3],
+        report: [0; 4],
+        column: [0],
     }
 }
 
@@ -110,7 +112,8 @@ fn make_least_squares(rng: &mut Rng) -> Call {
             junk(rng, "workspace", workspace_len),
             needed.unwrap_or(usize::MAX),
         )),
-        report: [0; 3],
+        report: [0; 4],
+        column: [rng.word()],
     }
 }
 
@@ -154,6 +157,7 @@ fn library_least_squares(call: &mut Call) -> u64 {
             out.len(),
             workspace.ptr(),
             workspace.len(),
+            &mut call.column,
         )
     }
 }

@@ -71,7 +71,8 @@ fn empty(sizes: Vec<usize>) -> Call {
         reads: vec![],
         writes: vec![],
         workspace: None,
-        report: [0; 3],
+        report: [0; 4],
+        column: [0],
     }
 }
 

@@ -14,16 +14,19 @@ pub const CHOLESKY: Function = Function {
     name: "solve_spd_cholesky",
     make: make_in_place,
     library: |call| {
-        let (n, (a, b)) = (call.sizes[0], both(call));
-        unsafe { raw::dapmotar_solve_spd_cholesky(a.ptr(), a.len(), b.ptr(), b.len(), n) }
+        in_place(call, |a, b, n, column| unsafe {
+            raw::dapmotar_solve_spd_cholesky(a.ptr(), a.len(), b.ptr(), b.len(), n, column)
+        })
     },
     model: |call| {
-        let (n, (a, b)) = (call.sizes[0], both(call));
-        number(model::solve_spd_cholesky(
-            a.numbers_mut(),
-            b.numbers_mut(),
-            n,
-        ))
+        in_place(call, |a, b, n, [column]| {
+            number(model::solve_spd_cholesky(
+                a.numbers_mut(),
+                b.numbers_mut(),
+                n,
+                column,
+            ))
+        })
     },
     label: number_label,
 };
@@ -32,12 +35,14 @@ pub const LU: Function = Function {
     name: "solve_lu",
     make: make_in_place,
     library: |call| {
-        let (n, (a, b)) = (call.sizes[0], both(call));
-        unsafe { raw::dapmotar_solve_lu(a.ptr(), a.len(), b.ptr(), b.len(), n) }
+        in_place(call, |a, b, n, column| unsafe {
+            raw::dapmotar_solve_lu(a.ptr(), a.len(), b.ptr(), b.len(), n, column)
+        })
     },
     model: |call| {
-        let (n, (a, b)) = (call.sizes[0], both(call));
-        number(model::solve_lu(a.numbers_mut(), b.numbers_mut(), n))
+        in_place(call, |a, b, n, [column]| {
+            number(model::solve_lu(a.numbers_mut(), b.numbers_mut(), n, column))
+        })
     },
     label: number_label,
 };
@@ -53,17 +58,21 @@ pub const NORMAL_EQUATIONS: Function = Function {
             call.writes[0].numbers_mut(),
             call.sizes[0],
             workspace.numbers_mut(),
+            &mut call.column[0],
         ))
     },
     label: number_label,
 };
 
-/// The matrix and the right-hand side, both written.
-fn both(call: &mut Call) -> (&mut Slice, &mut Slice) {
+/// A solve of the matrix and the right-hand side, both written.
+fn in_place(
+    call: &mut Call,
+    solve: impl FnOnce(&mut Slice, &mut Slice, usize, &mut [u64; 1]) -> u64,
+) -> u64 {
     let [a, b] = call.writes.as_mut_slice() else {
         unreachable!("two are written")
     };
-    (a, b)
+    solve(a, b, call.sizes[0], &mut call.column)
 }
 
 /// A matrix of n by n, or of another length, and a right-hand side.
@@ -89,7 +98,8 @@ fn make_in_place(rng: &mut Rng) -> Call {
         reads: vec![],
         writes: vec![a, b],
         workspace: None,
-        report: [0; 3],
+        report: [0; 4],
+        column: [rng.word()],
     }
 }
 
@@ -106,7 +116,8 @@ fn make_normal_equations(rng: &mut Rng) -> Call {
         reads: vec![a],
         writes: vec![b],
         workspace: Some((workspace, needed.unwrap_or(usize::MAX))),
-        report: [0; 3],
+        report: [0; 4],
+        column: [rng.word()],
     }
 }
 
@@ -122,6 +133,7 @@ fn library_normal_equations(call: &mut Call) -> u64 {
             call.sizes[0],
             workspace.ptr(),
             workspace.len(),
+            &mut call.column,
         )
     }
 }

@@ -71,8 +71,18 @@ solve-terms-requires c κs =
 enum-told : tie.Need-enum-told
 enum-told c = search needs
 
-enum-told-2 : tie.Need-enum-told-2
-enum-told-2 c = search needs
+rounds-requires : tie.Need-rounds-requires
+rounds-requires c κs =
+    let told = c .before .before in
+    let s = told .before .before .before .before .before .before in
+    let a = begin s .args in (
+      still (begin s .pre) (s .solve-terms .kept .1 .1 .1 .1 .0) (s .solve-terms .kept .1 .1 .1 .1 .1 .0),
+      first-goes (a .task) (now (a .theta)) (now (a .target)) (some-rows (all s .before)) (some-cols (all s .before)) (begin s .pre .sized .limited .few-cols)
+          (all s .full .result .0) (all s .full .ensures) (s .solve-terms .result) (new-coeffs s) (s .solve-terms .ensures) (told .enum-told .given .1),
+    )
+
+enum-known-term : tie.Need-enum-known-term
+enum-known-term c = search needs
 
 clear-requires-2 : tie.Need-clear-requires-2
 clear-requires-2 c κs = search needs
@@ -84,24 +94,7 @@ same-length-3 : tie.Need-same-length-3
 same-length-3 c = search needs
 
 returns-3 : tie.Need-returns-3
-returns-3 c =
-    let at-clear = c .before .before in
-    let told = at-clear .before .before in
-    let s = told .before .before .before .before .before .before in
-    let a = begin s .args in
-    first-refused (a .task) (now (a .theta)) (now (a .target)) (some-rows (all s .before)) (some-cols (all s .before)) (begin s .pre .sized .limited .few-cols)
-    (all s .full .result .0) (all s .full .ensures) (s .solve-terms .result) (new-coeffs s) (s .solve-terms .ensures)
-    (told .enum-told2 .given .0 .0) _ (told .enum-told2 .given .1) (new-long s) (at-clear .clear2 .ensures)
-
-rounds-requires : tie.Need-rounds-requires
-rounds-requires c κs =
-    let told = c .before .before in
-    let s = told .before .before .before .before .before .before in
-    let a = begin s .args in (
-      still (begin s .pre) (s .solve-terms .kept .1 .1 .1 .1 .0) (s .solve-terms .kept .1 .1 .1 .1 .1 .0),
-      first-goes (a .task) (now (a .theta)) (now (a .target)) (some-rows (all s .before)) (some-cols (all s .before)) (begin s .pre .sized .limited .few-cols)
-          (all s .full .result .0) (all s .full .ensures) (s .solve-terms .result) (new-coeffs s) (s .solve-terms .ensures) (told .enum-told .given .1),
-    )
+returns-3 c = search needs
 
 same-length-4 : tie.Need-same-length-4
 same-length-4 c = search needs
@@ -110,11 +103,18 @@ same-length-5 : tie.Need-same-length-5
 same-length-5 c = search needs
 
 returns-4 : tie.Need-returns-4
-returns-4 c = search needs
+returns-4 c =
+    let at-clear = c .before .before in
+    let refused = at-clear .before .before .before in
+    let s = refused .before .before .before .before .before .before in
+    let a = begin s .args in
+    first-refused (a .task) (now (a .theta)) (now (a .target)) (some-rows (all s .before)) (some-cols (all s .before)) (begin s .pre .sized .limited .few-cols)
+    (all s .full .result .0) (all s .full .ensures) (s .solve-terms .result) (new-coeffs s) (s .solve-terms .ensures)
+    _ _ (refused .term .given .1) (new-long s) (at-clear .clear2 .ensures)
 
 pub run-spec : {M : Type 1} → statement M
 run-spec =
     tie.close
     (tie.spec
-    clear-requires same-length returns returns-2 full-requires solve-terms-requires enum-told enum-told-2 clear-requires-2 same-length-2 same-length-3
-    returns-3 rounds-requires same-length-4 same-length-5 returns-4)
+    clear-requires same-length returns returns-2 full-requires solve-terms-requires enum-told rounds-requires enum-known-term clear-requires-2 same-length-2 same-length-3
+    returns-3 same-length-4 same-length-5 returns-4)

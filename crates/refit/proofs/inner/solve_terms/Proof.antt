@@ -59,8 +59,14 @@ solve-columns-requires c κs = search needs
 enum-told : tie.Need-enum-told
 enum-told c = search needs
 
-enum-told-2 : tie.Need-enum-told-2
-enum-told-2 c = search needs
+scatter-requires : tie.Need-scatter-requires
+scatter-requires c κs = search needs
+
+enum-known-col : tie.Need-enum-known-col
+enum-known-col c = search needs
+
+term-at-requires : tie.Need-term-at-requires
+term-at-requires c κs = search needs
 
 same-length : tie.Need-same-length
 same-length c = search needs
@@ -70,11 +76,12 @@ same-length-2 c = search needs
 
 returns : tie.Need-returns
 returns c =
-    let solve = c .before .before .before .before .before .before in
-    refused-out _ _ _ (solve .solve-columns .result) _ _ _ (c .enum-told2 .given .1) (solve .solve-columns .ensures)
-
-scatter-requires : tie.Need-scatter-requires
-scatter-requires c κs = search needs
+    let put = c .before .before in
+    let told = put .before .before in
+    let solve = told .before .before .before .before .before .before in
+    let n = counted solve in
+    done-out _ _ _ (solve .solve-columns .result) (values solve) (rest solve) (told .enum-told .given .1) (solve .solve-columns .ensures)
+    (all solve) (start n .pre .1) (long solve ∙ n .count .ensures) (put .scatter .ensures)
 
 same-length-3 : tie.Need-same-length-3
 same-length-3 c = search needs
@@ -84,28 +91,13 @@ same-length-4 c = search needs
 
 returns-2 : tie.Need-returns-2
 returns-2 c =
-    let put = c .before .before in
-    let told = put .before .before in
-    let solve = told .before .before .before .before .before .before in
-    let n = counted solve in
-    done-out _ _ _ (solve .solve-columns .result) (values solve) (rest solve) (told .enum-told .given .1) (solve .solve-columns .ensures)
-    (all solve) (start n .pre .1) (long solve ∙ n .count .ensures) (put .scatter .ensures)
+    let refused = c .before .before in
+    let solve = refused .before .before .before .before .before .before in
+    refused-out _ _ _ (solve .solve-columns .result) _ _ _ (refused .col .given .1) (c .term-at .ensures) (solve .solve-columns .ensures)
 
 pub solve-terms-spec : {M : Type 1} → statement M
 solve-terms-spec =
     tie.close
     (tie.spec
-    count-requires
-    sub-solve-columns
-    part-solve-columns-start
-    part-solve-columns-end
-    solve-columns-requires
-    enum-told
-    enum-told-2
-    same-length
-    same-length-2
-    returns
-    scatter-requires
-    same-length-3
-    same-length-4
-    returns-2)
+    count-requires sub-solve-columns part-solve-columns-start part-solve-columns-end solve-columns-requires enum-told scatter-requires enum-known-col term-at-requires
+    same-length same-length-2 returns same-length-3 same-length-4 returns-2)

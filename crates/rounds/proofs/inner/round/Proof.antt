@@ -98,8 +98,8 @@ solve-terms-requires c κs =
 enum-told : tie.Need-enum-told
 enum-told c = search needs
 
-enum-told-2 : tie.Need-enum-told-2
-enum-told-2 c = search needs
+enum-known-term : tie.Need-enum-known-term
+enum-known-term c = search needs
 
 clear-requires-2 : tie.Need-clear-requires-2
 clear-requires-2 c κs = search needs
@@ -112,13 +112,10 @@ same-length-4 c = search needs
 
 returns-3 : tie.Need-returns-3
 returns-3 c =
-    let at-clear = c .before .before in
-    let told = at-clear .before .before in
-    let s = told .before .before .before .before .before .before in
+    let s = c .before .before .before .before .before .before in
     let a = start (over s) .args in
-    turn-refused (a .task) (now (a .theta)) (now (a .target)) (a .last .0) (now (a .coeffs)) (long (over s)) (over s .support-of .result) (over s .support-of .ensures)
-    (some (tested s .before .before)) (other (tested s)) (s .solve-terms .result) (new-coeffs s) (s .solve-terms .ensures)
-    (told .enum-told2 .given .0 .0) _ (told .enum-told2 .given .1) (new-long s) (at-clear .clear2 .ensures)
+    turn-again (a .task) (now (a .theta)) (now (a .target)) (a .last .0) (now (a .coeffs)) (long (over s)) (over s .support-of .result) (over s .support-of .ensures)
+    (some (tested s .before .before)) (other (tested s)) (s .solve-terms .result) (new-coeffs s) (s .solve-terms .ensures) (c .enum-told .given .1)
 
 same-length-5 : tie.Need-same-length-5
 same-length-5 c = search needs
@@ -128,14 +125,17 @@ same-length-6 c = search needs
 
 returns-4 : tie.Need-returns-4
 returns-4 c =
-    let s = c .before .before .before .before .before .before in
+    let at-clear = c .before .before in
+    let refused = at-clear .before .before .before in
+    let s = refused .before .before .before .before .before .before in
     let a = start (over s) .args in
-    turn-again (a .task) (now (a .theta)) (now (a .target)) (a .last .0) (now (a .coeffs)) (long (over s)) (over s .support-of .result) (over s .support-of .ensures)
-    (some (tested s .before .before)) (other (tested s)) (s .solve-terms .result) (new-coeffs s) (s .solve-terms .ensures) (c .enum-told .given .1)
+    turn-refused (a .task) (now (a .theta)) (now (a .target)) (a .last .0) (now (a .coeffs)) (long (over s)) (over s .support-of .result) (over s .support-of .ensures)
+    (some (tested s .before .before)) (other (tested s)) (s .solve-terms .result) (new-coeffs s) (s .solve-terms .ensures)
+    _ _ (refused .term .given .1) (new-long s) (at-clear .clear2 .ensures)
 
 pub round-spec : {M : Type 1} → statement M
 round-spec =
     tie.close
     (tie.spec
     support-of-requires empty-requires same-requires clear-requires same-length returns same-requires-2 same-length-2 returns-2 solve-terms-requires
-    enum-told enum-told-2 clear-requires-2 same-length-3 same-length-4 returns-3 same-length-5 same-length-6 returns-4)
+    enum-told enum-known-term clear-requires-2 same-length-3 same-length-4 returns-3 same-length-5 same-length-6 returns-4)

@@ -116,24 +116,24 @@ returns-2 c =
     let r = c .before .before .before .before .before .before in
     ends-settled (P r) (turn r .before .loop .inv .4) (in-limit (turn r)) (came r _ (c .enum-told2 .given .1))
 
-enum-told-3 : tie.Need-enum-told-3 Inv-loop μ-loop
-enum-told-3 c = search needs
+enum-known-term : tie.Need-enum-known-term Inv-loop μ-loop
+enum-known-term c = search needs
 
 add-counted : tie.Need-add-counted Inv-loop μ-loop
 add-counted c =
-    let t = turn (c .before .before .before .before .before .before) in
+    let t = turn (c .before .before .before .before .before .before .before) in
     omega (arith, in-limit t, start t .pre .0 .sized .limited .few-rounds)
 
 same-length-5 : tie.Need-same-length-5 Inv-loop μ-loop
-same-length-5 c = same-coeffs (c .before .before .before .before .before .before)
+same-length-5 c = same-coeffs (c .before .before .before .before .before .before .before)
 
 same-length-6 : tie.Need-same-length-6 Inv-loop μ-loop
-same-length-6 c = same-space (c .before .before .before .before .before .before)
+same-length-6 c = same-space (c .before .before .before .before .before .before .before)
 
 returns-3 : tie.Need-returns-3 Inv-loop μ-loop
 returns-3 c =
-    let r = c .before .before .before .before .before .before in
-    ends-refused (P r) (turn r .before .loop .inv .4) (in-limit (turn r)) (came r _ (c .enum-told3 .given .1))
+    let r = c .before .before .before .before .before .before .before in
+    ends-refused (P r) (turn r .before .loop .inv .4) (in-limit (turn r)) _ (came r _ (c .before .term .given .1))
 
 add-refits : tie.Need-add-refits Inv-loop μ-loop
 add-refits c = search needs
@@ -173,5 +173,5 @@ rounds-spec =
     tie.close
     (tie.spec
     Inv-loop μ-loop empty-requires loop-holds round-requires enum-known-support enum-told same-length same-length-2 returns enum-told-2 same-length-3
-    same-length-4 returns-2 enum-told-3 add-counted same-length-5 same-length-6 returns-3 add-refits loop-less loop-again support-of-requires last-look-requires same-length-7
+    same-length-4 returns-2 enum-known-term add-counted same-length-5 same-length-6 returns-3 add-refits loop-less loop-again support-of-requires last-look-requires same-length-7
     same-length-8 returns-4)

@@ -18,13 +18,17 @@ enum-told c = search needs
 enum-told-2 : tie.Need-enum-told-2
 enum-told-2 c = search needs
 
+small-pivot-requires : tie.Need-small-pivot-requires
+small-pivot-requires c κs = search needs
+
 same-length : tie.Need-same-length
 same-length c = search needs
 
 returns : tie.Need-returns
 returns c =
-    let solve = c .before .before .before .before in
-    least-stops _ _ _ (c .enum-told2 .given .1) (solve .least-of .ensures)
+    let told = c .before in
+    let solve = told .before .before .before .before in
+    least-stops _ _ _ (told .enum-told2 .given .1) (solve .least-of .ensures) (c .small-pivot .ensures)
 
 add-last : tie.Need-add-last
 add-last c = search needs
@@ -63,4 +67,4 @@ returns-2 c =
 pub least-into-spec : {M : Type 1} → statement M
 least-into-spec =
     tie.close
-    (tie.spec least-of-requires enum-told enum-told-2 same-length returns add-last mul-copy sub-copy part-copy-start part-copy-end copy-requires same-length-2 same-length-3 returns-2)
+    (tie.spec least-of-requires enum-told enum-told-2 small-pivot-requires same-length returns add-last mul-copy sub-copy part-copy-start part-copy-end copy-requires same-length-2 same-length-3 returns-2)
