@@ -8,7 +8,7 @@ use lib.ListN.{length}
 use lib.Ieee.{Float}
 use Rattle.steps.specs.Cond.{either}
 use Rattle.steps.specs.Loops.{Way, going, stopped, StopsBelow}
-use Rattle.refusal.specs.Answers.{answer-column, and-then, ended, Solution, solved, refused, Within}
+use Rattle.refusal.specs.Answers.{column-of, answer-column, and-then, ended, Solution, solved, refused, Within}
 use Rattle.refusal.specs.declared.Column.{Column}
 use Rattle.refusal.specs.declared.Column.the-variants.{None, At}
 use Rattle.refusal.specs.declared.Answer.{Answer}
@@ -67,17 +67,11 @@ module _ (n : ℕ) where
       (λ f. either M (not (eqb right m)) _ _ (λ t. tt) (λ f. either M (not (eqb out n)) _ _ (λ t. tt) (λ f. either M (ltb m n) _ _ (λ t. tt)
       (λ f. either M (ltb space (least-need m n)) _ _ (λ t. tt) (λ f. tt)))))))
 
-  -- a solve that refuses tells its own
-  module _ {S : Type 0} where
-    not-spd-at : (w : Way S) → StopsBelow n w → M (ended NotSpd w)
-    unfolding M InMatrix
-    not-spd-at (going s) p = tt
-    not-spd-at (stopped c s) p = p
-
-    small-at : (w : Way S) → StopsBelow n w → M (ended SmallPivot w)
-    unfolding M InMatrix
-    small-at (going s) p = tt
-    small-at (stopped c s) p = p
+  -- a solve that stops tells its own, by a refusal that carries it
+  ended-at : {S : Type 0} (why : ℕ → Refusal) → ((c : ℕ) → column-of (why c) ≡ At c) → (w : Way S) → StopsBelow n w → M (ended why w)
+  unfolding M InMatrix
+  ended-at why carries (going s) p = tt
+  ended-at why carries (stopped c s) p = subst (InMatrix n) (sym (carries c)) p
 
   least-at : (x : Solution) → Within n x → M (least-answer x)
   unfolding M InMatrix
@@ -86,14 +80,14 @@ module _ (n : ℕ) where
 
 -- so of each call
 pub cholesky-column-below : (a b : List Float) (n : ℕ) (a' b' : List Float) (r : Answer) → CholeskyCall a b n a' b' r → ColumnBelow n r
-cholesky-column-below a b n a' b' r call = told n r (call .answer ∙ ap (λ s. and-then s _) (call .judged)) (both n _ _ (square n (length a) (length b)) (not-spd-at n (cholesky n a b) (chol-refuses n a b)))
+cholesky-column-below a b n a' b' r call = told n r (call .answer ∙ ap (λ s. and-then s _) (call .judged)) (both n _ _ (square n (length a) (length b)) (ended-at n NotSpd (λ c. refl) (cholesky n a b) (chol-refuses n a b)))
 
 pub lu-column-below : (a b : List Float) (n : ℕ) (a' b' : List Float) (r : Answer) → LuCall a b n a' b' r → ColumnBelow n r
-lu-column-below a b n a' b' r call = told n r (call .answer ∙ ap (λ s. and-then s _) (call .judged)) (both n _ _ (square n (length a) (length b)) (small-at n (lu n a b) (lu-refuses n a b)))
+lu-column-below a b n a' b' r call = told n r (call .answer ∙ ap (λ s. and-then s _) (call .judged)) (both n _ _ (square n (length a) (length b)) (ended-at n SmallPivot (λ c. refl) (lu n a b) (lu-refuses n a b)))
 
 pub normal-column-below : (a b : List Float) (n : ℕ) (w b' w' : List Float) (r : Answer) → NormalCall a b n b' w w' r → ColumnBelow n r
 normal-column-below a b n w b' w' r call =
-    told n r (call .answer ∙ ap (λ s. and-then s _) (call .judged)) (both n _ _ (spaced n (length a) (length b) (length w)) (small-at n (normal n a b) (normal-refuses n a b)))
+    told n r (call .answer ∙ ap (λ s. and-then s _) (call .judged)) (both n _ _ (spaced n (length a) (length b) (length w)) (ended-at n SmallPivot (λ c. refl) (normal n a b) (normal-refuses n a b)))
 
 pub least-column-below : (a b : List Float) (m n : ℕ) (o w o' w' : List Float) (r : Answer) → LeastCall a b m n o o' w w' r → ColumnBelow n r
 least-column-below a b m n o w o' w' r call =
