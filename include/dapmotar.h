@@ -151,7 +151,7 @@ uint64_t dapmotar_strlsq_qr(const double *theta, size_t theta_len, size_t n_rows
                             size_t workspace_len, uint64_t report[4]);
 
 /*
- * The numbers of workspace that a fit needs, with r rows and c columns: r*c + 2*c*c + c for the normal equations,
+ * The numbers of workspace that a fit needs, with r rows and c columns: 3*c*c + 2*c for the normal equations (at any r),
  * 2*(r+c)*c + 3*(r+c) + 3*c for QR. 0 says that none is needed (no columns; for QR no rows either), or that the sizes
  * are beyond the limits: then the fit is refused, 1 or 2, whatever workspace it gets. Either way a null pointer with
  * length 0 will do.

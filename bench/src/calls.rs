@@ -11,6 +11,15 @@ pub struct Room {
     pub workspace: Vec<f64>,
 }
 
+impl Room {
+    pub fn new(call: Call, data: &Data) -> Room {
+        Room {
+            out: vec![0.0; (call.out)(data)],
+            workspace: vec![0.0; (call.workspace)(data)],
+        }
+    }
+}
+
 /// One call, by the port and by the Rust. The Rust gives its result; the port leaves it in the room.
 #[derive(Clone, Copy)]
 pub struct Call {
@@ -28,6 +37,26 @@ const SETUP: Setup = Setup {
     lambda: LAMBDA,
     max_iter: MAX_ITER,
 };
+
+pub const STRLSQ: Call = Call {
+    name: "strlsq",
+    out: |d| d.cols,
+    workspace: |d| dapmotar::strlsq_workspace(d.rows, d.cols),
+    port: |d, room| {
+        refits(d, room);
+    },
+    rust: |d| {
+        strlsq::strlsq(
+            &d.theta, d.rows, d.cols, &d.target, THRESHOLD, LAMBDA, MAX_ITER,
+        )
+    },
+};
+
+/// The port's `strlsq`, and how often it refitted.
+pub fn refits(d: &Data, Room { out, workspace }: &mut Room) -> u64 {
+    let report = dapmotar::strlsq(&d.theta, d.rows, d.cols, &d.target, SETUP, out, workspace);
+    report.expect("accepted").refits
+}
 
 pub const ALL: [Call; 6] = [
     Call {
@@ -75,21 +104,7 @@ pub const ALL: [Call; 6] = [
             linalg::solve_least_squares(&d.theta, &d.target, d.rows, d.cols).expect("accepted")
         },
     },
-    Call {
-        name: "strlsq",
-        out: |d| d.cols,
-        workspace: |d| dapmotar::strlsq_workspace(d.rows, d.cols),
-        port: |d, Room { out, workspace }| {
-            dapmotar::strlsq(&d.theta, d.rows, d.cols, &d.target, SETUP, out, workspace)
-                .map(|_| ())
-                .expect("accepted")
-        },
-        rust: |d| {
-            strlsq::strlsq(
-                &d.theta, d.rows, d.cols, &d.target, THRESHOLD, LAMBDA, MAX_ITER,
-            )
-        },
-    },
+    STRLSQ,
     Call {
         name: "strlsq_qr",
         out: |d| d.cols,

@@ -18,10 +18,14 @@ pub const THRESHOLD: f64 = 0.25;
 pub const LAMBDA: f64 = 1e-6;
 pub const MAX_ITER: usize = 20;
 
+/// The terms that fall in turn, or at once.
+pub const FALLING: usize = 8;
+
 impl Data {
+    /// About half of the terms are small.
     pub fn new(rows: usize, cols: usize) -> Data {
         let mut rng = Rng::new(4);
-        let theta: Vec<f64> = (0..rows * cols).map(|_| rng.signed()).collect();
+        let theta = (0..rows * cols).map(|_| rng.signed()).collect();
         let truth: Vec<f64> = (0..cols)
             .map(|j| {
                 if j % 2 == 0 {
@@ -31,6 +35,31 @@ impl Data {
                 }
             })
             .collect();
+        Data::of(&mut rng, rows, cols, theta, &truth)
+    }
+
+    /// The first terms fall, all others stay. At once: the first look finds them small. In turn: each of them leans on the
+    /// one before, and is found small only after the refit without that one, so there are as many refits.
+    pub fn falling(rows: usize, cols: usize, in_turn: bool) -> Data {
+        let mut rng = Rng::new(5);
+        let mut theta: Vec<f64> = (0..rows * cols).map(|_| rng.signed()).collect();
+        for row in theta.chunks_mut(cols) {
+            for j in 1..FALLING {
+                row[j] += 0.7 * row[j - 1];
+            }
+        }
+        let truth: Vec<f64> = (0..cols)
+            .map(|j| match j {
+                FALLING.. => 1.0 + rng.unit(),
+                0 => 0.2,
+                _ if in_turn => [0.3, -0.3][j % 2],
+                _ => [0.1, -0.1][j % 2],
+            })
+            .collect();
+        Data::of(&mut rng, rows, cols, theta, &truth)
+    }
+
+    fn of(rng: &mut Rng, rows: usize, cols: usize, theta: Vec<f64>, truth: &[f64]) -> Data {
         let target: Vec<f64> = (0..rows)
             .map(|i| {
                 let exact: f64 = (0..cols).map(|j| theta[i * cols + j] * truth[j]).sum();

@@ -6,7 +6,8 @@ mod machine;
 mod measure;
 mod table;
 
-use data::Data;
+use calls::{Call, Room, STRLSQ};
+use data::{Data, FALLING};
 use std::env;
 use std::process::ExitCode;
 
@@ -32,6 +33,14 @@ fn main() -> ExitCode {
             eprintln!("{} at {n_rows}x{n_cols}", call.name);
             rows.push(table::Row::new(call, &data, measure::measure(call, &data)));
         }
+        rows.push(falling("strlsq, 1 refit", n_rows, n_cols, false, 1));
+        rows.push(falling(
+            "strlsq, 8 refits",
+            n_rows,
+            n_cols,
+            true,
+            FALLING as u64,
+        ));
     }
     let text = table::text(&rows);
     print!("{text}");
@@ -39,10 +48,20 @@ fn main() -> ExitCode {
         eprintln!("bench: {e}");
         return ExitCode::from(2);
     }
-    let within = rows.iter().all(table::Row::within);
+    let within =
+        rows.iter().all(table::Row::within) && table::more_refits(&rows) <= table::MORE_REFITS;
     if within {
         ExitCode::SUCCESS
     } else {
         ExitCode::FAILURE
     }
+}
+
+/// `strlsq` where eight terms fall, over so many refits.
+fn falling(name: &'static str, rows: usize, cols: usize, in_turn: bool, refits: u64) -> table::Row {
+    let data = Data::falling(rows, cols, in_turn);
+    let call = Call { name, ..STRLSQ };
+    assert_eq!(calls::refits(&data, &mut Room::new(call, &data)), refits);
+    eprintln!("{name} at {rows}x{cols}");
+    table::Row::new(call, &data, measure::measure(call, &data))
 }

@@ -21,10 +21,7 @@ const SAMPLES: usize = 15;
 
 /// Measures a call by the port and by the Rust in turn, once both gave the same bits.
 pub fn measure(call: Call, data: &Data) -> Times {
-    let mut room = Room {
-        out: vec![0.0; (call.out)(data)],
-        workspace: vec![0.0; (call.workspace)(data)],
-    };
+    let mut room = Room::new(call, data);
     (call.port)(data, &mut room);
     let expected = (call.rust)(data);
     let differs = first_difference(&room.out, &expected);

@@ -1,19 +1,15 @@
 -- What the sizes of a call tell that are not refused. Assumes nothing.
 use mathlib.Core.Path.{_≡_, refl, sym, _∙_}
 use mathlib.Core.Bool.{not}
-use Prim.Native.Nat.{ℕ, _*_, _≤_}
+use Prim.Native.Nat.{ℕ, _*_}
 use borrow.Author.Tests.{ltb-false, eqb-true, not-false}
 use lib.Dec.{ltb, eqb}
 use Rattle.refusal.specs.Ladder.{not-refused, both-done}
 use Rattle.refusal.specs.declared.Answer.{Answer}
 use Rattle.refusal.specs.declared.Answer.the-variants.{Done}
 use Rattle.refusal.specs.declared.Refusal.the-variants.{ManyColumns, ManyRows, MatrixLength, TargetLength, OutputLength}
+use Rattle.sums.specs.Inner.{Matrix}
 use Rattle.builders.specs.Calls.{matrix-sizes, jtj-sizes, jtr-sizes}
-
-pub record Matrix (rows n matrix : ℕ) : Type 0 where
-  pub few-columns : n ≤ 64
-  pub few-rows : rows ≤ 4096
-  pub cells : matrix ≡ rows * n
 
 module _ {rows n matrix : ℕ} {sizes : Answer} where
   pub matrix-fits : sizes ≡ matrix-sizes rows n matrix → sizes ≡ Done → Matrix rows n matrix

@@ -5,9 +5,9 @@ ghost use Rattle.sums.specs.Products.{ridge};
 ghost use Rattle.builders.specs.Calls.{JtjCall, JtrCall};
 use refusal::Answer;
 use slices::inner::few;
-use sums::inner::jtj_of;
-use sums::inner::jtr_of;
-use support::Support;
+use sums::inner::damp;
+use sums::inner::jtj_sums;
+use sums::inner::jtr_sums;
 
 // The products of the columns p and q of a matrix, summed over its rows, at (p,q) and at (q,p); lambda is added to each diagonal number.
 pub fn jtj(jac: &[f64], n_rows: usize, n_params: usize, lambda: f64, out: &mut [f64]) -> Answer
@@ -18,7 +18,8 @@ pub fn jtj(jac: &[f64], n_rows: usize, n_params: usize, lambda: f64, out: &mut [
         return sizes;
     };
     let n_cols = few(n_params);
-    jtj_of(jac, n_rows, n_cols, Support::full(n_params), lambda, out);
+    jtj_sums(jac, n_rows, n_cols, out);
+    damp(out, n_cols, lambda);
     Answer::Done
 }
 
@@ -30,6 +31,6 @@ pub fn jtr(jac: &[f64], r: &[f64], n_rows: usize, n_params: usize, out: &mut [f6
     let Answer::Done = sizes else {
         return sizes;
     };
-    jtr_of(jac, r, n_rows, n_params, Support::full(n_params), out);
+    jtr_sums(jac, r, n_rows, n_params, out);
     Answer::Done
 }

@@ -1,9 +1,9 @@
 // A fit, all but its last pass: the first solve, over all columns, and the rounds after it.
-ghost use mathlib.Core.Path.{_≡_};
 ghost use Rattle.rule.specs.Fits.{problem-of};
 ghost use Rattle.rule.specs.Sizes.{Ready};
 ghost use Rattle.rounds.specs.Ran.{CameTo};
 use refit::inner::Spread;
+use refit::inner::keep;
 use refit::inner::solve_terms;
 use rounds::inner::Ran;
 use rounds::inner::rounds;
@@ -30,6 +30,7 @@ pub fn run(task: Task, theta: &[f64], target: &[f64], coeffs: &mut [f64], ws: &m
             refits: 0,
         };
     }
+    keep(task, theta, target, ws);
     match solve_terms(task, theta, target, Support::full(task.cols), coeffs, ws) {
         Spread::Done => rounds(task, theta, target, coeffs, ws),
         Spread::Refused(term) => {

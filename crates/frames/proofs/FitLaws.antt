@@ -21,7 +21,7 @@ use Rattle.frames.specs.Exchange.{fit-lines}
 -- the largest workspace is that of the most rows and columns by QR
 need-most : (solver : Solver) (rows cols : ℕ) → rows ≤ most-rows → cols ≤ most-cols → fit-need solver rows cols ≤ most-space
 unfolding fit-need
-need-most Normal rows cols h k = omega (arith, mul-le-mul h k, mul-le-mul k k)
+need-most Normal rows cols h k = omega (arith, mul-le-mul k k)
 need-most Qr rows cols h k = let s : rows + cols ≤ most-rows + most-cols = omega arith in omega (arith, mul-le-mul s k)
 
 pub ready-within : {task : Task} {theta target cs ws : List Float} → Limited most-cols most-rows task

@@ -1,3 +1,4 @@
 -- The normal equations. Assumes nothing.
 pub mod Normal
+pub mod Ends
 pub mod Refuses

@@ -1,2 +1,2 @@
-// The normal equations, for `solve` and the fits: nothing here is a public call.
+// The normal equations, for `solve`: nothing here is a public call.
 pub mod inner;

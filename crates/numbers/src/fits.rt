@@ -26,7 +26,7 @@ fn f8(max_iter: usize, stop: u64, coefficient: u64) -> bool {
     let theta = [1.0];
     let target = [0.0 / 0.0];
     let mut coeffs = [7.0];
-    let mut workspace = [7.0; 4];
+    let mut workspace = [7.0; 5];
     let setup = Setup {
         threshold: 0.5,
         lambda: 0.0,
@@ -73,11 +73,11 @@ fn fit_row(
 
 // A fit of a row of ones, with a workspace of so many numbers.
 fn fit_ones(solver: Solver, n_cols: usize, max_iter: usize, room: usize) -> Fitted
-    requires { ⌜ («n_cols» ≤ 65) × (room ≤ 8973) ⌝ }
+    requires { ⌜ («n_cols» ≤ 65) × (room ≤ 12805) ⌝ }
 {
     let theta = [1.0; 65];
     let mut coeffs = [7.0; 65];
-    let mut workspace = [7.0; 8973];
+    let mut workspace = [7.0; 12805];
     let setup = Setup {
         threshold: 0.0,
         lambda: 1.0,
@@ -96,36 +96,36 @@ fn fit_ones(solver: Solver, n_cols: usize, max_iter: usize, room: usize) -> Fitt
 
 // Whether such a fit of 64 columns settles after one refit, with every term kept.
 fn passes(solver: Solver, room: usize) -> bool
-    requires { ⌜ room ≤ 8973 ⌝ }
+    requires { ⌜ room ≤ 12805 ⌝ }
 {
     reports(fit_ones(solver, 64, 1000, room), 4, 1, u64::MAX)
 }
 
 // The number with which such a fit is refused.
 fn refused(solver: Solver, n_cols: usize, max_iter: usize, room: usize) -> u64
-    requires { ⌜ («n_cols» ≤ 65) × (room ≤ 8973) ⌝ }
+    requires { ⌜ («n_cols» ≤ 65) × (room ≤ 12805) ⌝ }
 {
     rule::fitted_number(fit_ones(solver, n_cols, max_iter, room))
 }
 
-// The sizes: what both fits take, and one more. 64 columns of one row need 8,320 numbers, by QR 8,707.
+// The sizes: what both fits take, and one more. 64 columns need 12,416 numbers at any row count, by QR 8,707 of one row.
 fn sizes() {
-    let normal = passes(Solver::Normal, 8320);
+    let normal = passes(Solver::Normal, 12416);
     say(
         b"64 columns, max_iter 1,000",
         normal && passes(Solver::Qr, 8707),
     );
-    let normal = refused(Solver::Normal, 65, 1000, 8580) == 1;
+    let normal = refused(Solver::Normal, 65, 1000, 12805) == 1;
     say(
         b"65 columns",
         normal && refused(Solver::Qr, 65, 1000, 8973) == 1,
     );
-    let normal = refused(Solver::Normal, 64, 1001, 8320) == 3;
+    let normal = refused(Solver::Normal, 64, 1001, 12416) == 3;
     say(
         b"max_iter 1,001",
         normal && refused(Solver::Qr, 64, 1001, 8707) == 3,
     );
-    let normal = refused(Solver::Normal, 64, 1000, 8319) == 7;
+    let normal = refused(Solver::Normal, 64, 1000, 12415) == 7;
     say(
         b"a workspace one short",
         normal && refused(Solver::Qr, 64, 1000, 8706) == 7,

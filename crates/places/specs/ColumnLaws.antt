@@ -1,31 +1,32 @@
 -- The columns that a table of a support lists are the support's columns; the full support's are theta's own. Assumes nothing.
 use mathlib.Core.Path.{_≡_, ap}
 use mathlib.Core.List.{List}
-use Prim.Native.Nat.{ℕ, _≤_, _<_}
+use Prim.Native.Nat.{ℕ, _^_, _≤_, _<_}
 use native.Mathlib.Omega.{arith}
 use lib.Count.{ones, ones-le}
 use lib.ListN.{length}
 use lib.Ieee.{Float}
 use Rattle.steps.specs.Num.{Entry}
 use Rattle.support.specs.Word.{full}
-use Rattle.support.specs.CountLaws.{ones-is}
-use Rattle.support.specs.TermLaws.{term-is, term-full}
-use Rattle.places.specs.Columns.{Within, columns, Lists, Listed, listed}
+use Rattle.support.specs.TermLaws.{term-below, term-full}
+use Rattle.places.specs.Columns.{Within, columns, Lists, Names, Listed, listed}
 
 module _ (n w : ℕ) (table : List ℕ) (l : Lists n w table) where
-  -- each is a column of theta
-  pub listed-in : (theta : List Float) (rows k : ℕ) → Within theta rows n w → k ≡ ones w → n ≤ length table → Listed rows n k table theta
-  listed-in theta rows k sizes e room =
-      let few = ones-le n w (sizes .terms) in
+  -- each is a column
+  pub names-in : (k : ℕ) → n ≤ 64 → w < 2 ^ n → k ≡ ones w → n ≤ length table → Names n k table
+  names-in k small terms e room =
+      let few = ones-le n w terms in
       record {
-        few-columns = sizes .few-columns;
+        few-columns = small;
         few = omega arith;
         long = omega arith;
-        matrix = sizes .matrix;
         each = λ p h.
             let b : p < ones w = omega arith in
-            omega (arith, l .each p b, term-is n w p (omega (arith, ones-is w n (sizes .terms))) .below);
+            omega (arith, l .each p b, term-below n w p terms b);
       }
+
+  pub listed-in : (theta : List Float) (rows k : ℕ) → Within theta rows n w → k ≡ ones w → n ≤ length table → Listed rows n k table theta
+  listed-in theta rows k sizes e room = record { names = names-in k (sizes .few-columns) (sizes .terms) e room; matrix = sizes .matrix }
 
   pub listed-is : (e : Entry) (i p : ℕ) → p < ones w → listed table e i p ≡ columns n w e i p
   unfolding listed columns

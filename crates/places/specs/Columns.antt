@@ -23,13 +23,17 @@ columns n w e i p = e i (term n w p)
 pub record Lists (n w : ℕ) (table : List ℕ) : Type 0 where
   pub each : (p : ℕ) → p < ones w → getD table p 0 ≡ term n w p
 
--- a table has k numbers, each a column of a theta of n columns and this many rows; k is at most n, and n at most 64
-pub record Listed (rows n k : ℕ) (table : List ℕ) (theta : List Float) : Type 0 where
+-- a table has k numbers, each one of n columns; k is at most n, and n at most 64
+pub record Names (n k : ℕ) (table : List ℕ) : Type 0 where
   pub few-columns : n ≤ 64
   pub few : k ≤ n
   pub long : k ≤ length table
-  pub matrix : length theta ≡ rows * n
   pub each : (p : ℕ) → p < k → getD table p 0 < n
+
+-- they are columns of a theta of this many rows
+pub record Listed (rows n k : ℕ) (table : List ℕ) (theta : List Float) : Type 0 where
+  pub names : Names n k table
+  pub matrix : length theta ≡ rows * n
 
 -- the columns that a table lists
 unfoldable pub listed : List ℕ → Entry → Entry

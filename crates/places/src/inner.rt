@@ -33,7 +33,7 @@ pub fn list_terms(support: Support, n_cols: usize, terms: &mut [usize])
 }
 
 // The term number of a reduced place.
-fn term_of(terms: &[usize], col: Col) -> Term
+pub fn term_of(terms: &[usize], col: Col) -> Term
     requires { ⌜ col .0 < length (now terms) ⌝ }
     ensures { λ r. ⌜ r .0 ≡ getD (now (terms .entry)) (col .0) 0 ⌝ }
 {
@@ -41,8 +41,8 @@ fn term_of(terms: &[usize], col: Col) -> Term
     Term(terms[i])
 }
 
-// Row i of the column of theta that has this term number.
-fn at_term(theta: &[f64], n_cols: usize, i: usize, term_idx: Term) -> f64
+// Row i of the column that has this term number, of theta or of the sums of its columns.
+pub fn at_term(theta: &[f64], n_cols: usize, i: usize, term_idx: Term) -> f64
     requires { ⌜ i * «n_cols» + «term_idx» .0 < length (now theta) ⌝ }
     ensures { λ r. ⌜ r ≡ cell-of «n_cols» (now (theta .entry)) i («term_idx» .0) ⌝ }
 {

@@ -7,6 +7,7 @@ use native.Mathlib.Omega.{arith}
 use lib.Count.{ones-le}
 use lib.Ieee.{Float}
 use Rattle.places.specs.Columns.{Within}
+use Rattle.sums.specs.Kept.{kept-size}
 use Rattle.rule.specs.Sizes.{fit-need, task-need}
 use Rattle.rule.specs.declared.Task.{Task}
 use Rattle.rule.specs.declared.Solver.{Solver}
@@ -20,6 +21,11 @@ cells task k = (task .rows + k) * k
 abbrev pub both : Task → ℕ → ℕ
 both task k = cells task k + (task .rows + k)
 
+-- a fit's workspace by the normal equations has room for the kept sums
+pub sums-fit : (task : Task) {n : ℕ} → task .solver ≡ Normal → task-need task ≤ n → kept-size (task .cols) ≤ n
+unfolding fit-need
+sums-fit task is room = let need = ap (λ (s : Solver). fit-need s (task .rows) (task .cols)) is in omega (arith, need)
+
 module _ {task : Task} {theta target : List Float} {w k : ℕ} (s : Counted task theta target w k) where
   pub few : k ≤ task .cols
   few = omega (arith, ones-le (task .cols) w (s .within))
@@ -27,22 +33,19 @@ module _ {task : Task} {theta target : List Float} {w k : ℕ} (s : Counted task
   pub narrow : k ≤ 64
   narrow = omega (arith, few)
 
-  pub pairs : k * k ≤ 64 * 64
-  pairs = mul-le-mul narrow narrow
-
   pub area : cells task k ≤ 266240
   area = let tall : task .rows + k ≤ 4160 = omega (arith, narrow) in omega (arith, mul-le-mul tall narrow)
 
-  -- what the sums rely on
+  -- what QR's matrix is taken from
   pub columns-in : Within theta (task .rows) (task .cols) w
   columns-in = record { few-columns = s .sized .limited .few-cols; few-rows = s .sized .limited .few-rows; matrix = s .sized .theta-long; terms = s .within }
 
   -- what a fit's workspace of n numbers has room for
   module _ {n : ℕ} (room : task-need task ≤ n) where
-    -- two matrices of the sums
-    pub normal-fits : task .solver ≡ Normal → 2 * (k * k) ≤ n
+    -- the kept sums and a block of them
+    pub block-fits : task .solver ≡ Normal → kept-size (task .cols) + k * k ≤ n
     unfolding fit-need
-    normal-fits is =
+    block-fits is =
         let need = ap (λ (s : Solver). fit-need s (task .rows) (task .cols)) is in
         omega (arith, need, mul-le-mul few few)
 

@@ -2,4 +2,5 @@
 pub mod Head
 pub mod Large
 pub mod Ends
+pub mod Kept
 pub mod Joined

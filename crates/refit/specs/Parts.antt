@@ -1,15 +1,21 @@
 -- What a solve over a support promises, in the words of the rule. Assumes nothing.
 use mathlib.Core.Path.{_≡_}
 use mathlib.Core.List.{List}
+use mathlib.Core.Logic.{_≢_}
 use Prim.Native.Nat.{ℕ, _^_, _<_}
 use lib.Count.{ones}
+use lib.ListN.{take}
 use lib.Ieee.{Float}
+use Rattle.steps.specs.Num.{at}
 use Rattle.refusal.specs.Answers.{Solution, solved, refused, solution, told}
 use Rattle.refusal.specs.declared.Solved.{Solved}
+use Rattle.sums.specs.Products.{gram, moment}
+use Rattle.sums.specs.Kept.{kept-size, kept-sums}
 use Rattle.support.specs.Word.{term-at}
 use Rattle.rule.specs.Rule.{scatter}
-use Rattle.rule.specs.Fits.{problem-of}
+use Rattle.rule.specs.Fits.{matrix-of, problem-of}
 use Rattle.rule.specs.Sizes.{Sized}
+use Rattle.rule.specs.declared.Solver.the-variants.{Qr}
 use Rattle.rule.specs.declared.Task.{Task}
 use Rattle.refit.specs.declared.inner.Spread.{Spread}
 use Rattle.refit.specs.declared.inner.Spread.the-variants.{Done, Refused}
@@ -19,6 +25,11 @@ pub record Counted (task : Task) (theta target : List Float) (w k : ℕ) : Type 
   pub sized : Sized task theta target
   pub within : w < 2 ^ task .cols
   pub count : k ≡ ones w
+
+-- what a fit keeps in its workspace from one solve to the next: unless it solves by least squares, the sums of all columns, undamped, at the head
+pub record Kept (task : Task) (theta target ws : List Float) : Type 0 where
+  pub sums : task .solver ≢ Qr → take (kept-size (task .cols)) ws
+      ≡ kept-sums (task .cols) (gram (matrix-of task theta) (task .rows)) (moment (matrix-of task theta) (at target) (task .rows))
 
 -- what a solve over w gives of theta's terms: each value at its term, or the term of the column at which it refused
 abbrev pub placed : ℕ → ℕ → Solution → Solution

@@ -6,17 +6,35 @@ ghost use mathlib.Core.Path.{_≡_};
 ghost use Prim.Native.Nat.{_^_, _≤_, _<_};
 ghost use lib.ListN.{length};
 ghost use Rattle.rule.specs.Fits.{problem-of};
-ghost use Rattle.rule.specs.Sizes.{Ready, task-need};
-ghost use Rattle.refit.specs.Parts.{Counted, OverSupport, gave};
+ghost use Rattle.rule.specs.Sizes.{Sized, Ready, task-need};
+ghost use Rattle.refit.specs.Parts.{Counted, Kept, OverSupport, gave};
 use crate::inner::by_least::solve_qr;
 use crate::inner::by_normal::solve_normal;
+use block::inner::keep_sums;
 use coeffs::inner::scatter;
 use refusal::Solved;
 use rule::Solver;
 use rule::Task;
+use slices::inner::few;
 use support::Col;
 use support::Support;
 use support::Term;
+
+// What a fit keeps of the rows for its solves: by the normal equations the sums of all columns, by least squares nothing.
+pub fn keep(task: Task, theta: &[f64], target: &[f64], ws: &mut [f64])
+    requires { ⌜ Sized task (now theta) (now target) × (task-need task ≤ length (now ws)) ⌝ }
+    ensures { λ _. ⌜ Kept task (now (theta .entry)) (now (target .entry)) (now (ws .exit)) ⌝ }
+{
+    let solver = task.solver;
+    match solver {
+        Solver::Normal => {
+            let n_cols = few(task.cols);
+            let h = n_cols * n_cols + n_cols;
+            keep_sums(theta, target, task.rows, n_cols, &mut ws[0..h]);
+        }
+        Solver::Qr => {}
+    }
+}
 
 // The values of the support's columns by reduced place, in b.
 fn solve_columns(
@@ -27,12 +45,13 @@ fn solve_columns(
     b: &mut [f64],
     ws: &mut [f64],
 ) -> Solved
-    requires { ⌜ Counted task (now theta) (now target) (support .0) (length (now b)) × (task-need task ≤ length (now ws)) ⌝ }
-    ensures { λ r. ⌜ gave r (now (b .exit)) ≡ problem-of task (now (theta .entry)) (now (target .entry)) .solve (support .0) ⌝ }
+    requires { ⌜ Counted task (now theta) (now target) (support .0) (length (now b)) × (task-need task ≤ length (now ws)) × Kept task (now theta) (now target) (now ws) ⌝ }
+    ensures { λ r. ⌜ (gave r (now (b .exit)) ≡ problem-of task (now (theta .entry)) (now (target .entry)) .solve (support .0))
+        × Kept task (now (theta .entry)) (now (target .entry)) (now (ws .exit)) ⌝ }
 {
     let solver = task.solver;
     match solver {
-        Solver::Normal => solve_normal(task, theta, target, support, b, ws),
+        Solver::Normal => solve_normal(task, support, b, ws),
         Solver::Qr => solve_qr(task, theta, target, support, b, ws),
     }
 }
@@ -52,8 +71,8 @@ pub fn solve_terms(
     coeffs: &mut [f64],
     ws: &mut [f64],
 ) -> Spread
-    requires { ⌜ Ready task (now theta) (now target) (now coeffs) (now ws) × (support .0 < 2 ^ task .cols) ⌝ }
-    ensures { λ r. ⌜ OverSupport task (now (theta .entry)) (now (target .entry)) (support .0) r (now (coeffs .exit)) ⌝ }
+    requires { ⌜ Ready task (now theta) (now target) (now coeffs) (now ws) × (support .0 < 2 ^ task .cols) × Kept task (now theta) (now target) (now ws) ⌝ }
+    ensures { λ r. ⌜ OverSupport task (now (theta .entry)) (now (target .entry)) (support .0) r (now (coeffs .exit)) × Kept task (now (theta .entry)) (now (target .entry)) (now (ws .exit)) ⌝ }
 {
     let n_active = support.count();
     match solve_columns(task, theta, target, support, &mut coeffs[0..n_active], ws) {

@@ -4,6 +4,7 @@ ghost use mathlib.Core.List.{[]};
 ghost use Rattle.rule.specs.Rule.{going, last-look, start};
 ghost use Rattle.rule.specs.Fits.{problem-of};
 ghost use Rattle.rule.specs.Sizes.{Ready};
+ghost use Rattle.refit.specs.Parts.{Kept};
 ghost use Rattle.rounds.specs.Turned.{Turned};
 ghost use Rattle.rounds.specs.Ran.{CameTo};
 use coeffs::inner::support_of;
@@ -38,8 +39,9 @@ pub fn round(
     coeffs: &mut [f64],
     ws: &mut [f64],
 ) -> Turn
-    requires { ⌜ Ready task (now theta) (now target) (now coeffs) (now ws) ⌝ }
-    ensures { λ r. ⌜ Turned (problem-of task (now (theta .entry)) (now (target .entry))) (last .0) (now (coeffs .entry)) r (now (coeffs .exit)) ⌝ }
+    requires { ⌜ Ready task (now theta) (now target) (now coeffs) (now ws) × Kept task (now theta) (now target) (now ws) ⌝ }
+    ensures { λ r. ⌜ Turned (problem-of task (now (theta .entry)) (now (target .entry))) (last .0) (now (coeffs .entry)) r (now (coeffs .exit))
+        × Kept task (now (theta .entry)) (now (target .entry)) (now (ws .exit)) ⌝ }
 {
     let setup = task.setup;
     let support = support_of(coeffs, setup);
@@ -74,7 +76,8 @@ fn last_look(refits: usize, last: Support, support: Support) -> Stop
 
 // The rounds after a first solve that was not refused: each refits but one that ends the fit. When they are used up, the last look tells the stop.
 pub fn rounds(task: Task, theta: &[f64], target: &[f64], coeffs: &mut [f64], ws: &mut [f64]) -> Ran
-    requires { ⌜ Ready task (now theta) (now target) (now coeffs) (now ws) × (start (problem-of task (now theta) (now target)) ≡ going (now coeffs) []) ⌝ }
+    requires { ⌜ Ready task (now theta) (now target) (now coeffs) (now ws) × Kept task (now theta) (now target) (now ws)
+        × (start (problem-of task (now theta) (now target)) ≡ going (now coeffs) []) ⌝ }
     ensures { λ r. ⌜ CameTo (problem-of task (now (theta .entry)) (now (target .entry))) (task .setup .«max_iter») (r .stop) (r .refits) (now (coeffs .exit)) ⌝ }
 {
     let setup = task.setup;

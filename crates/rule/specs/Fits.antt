@@ -31,8 +31,8 @@ clears setup j c = lt (absOf c) (setup .threshold)
 abbrev pub Solves : Type 0
 Solves = ℕ → Entry → Solution
 
--- by the normal equations of c columns, from the pair sums g and the target products m, however these were made and are damped:
--- today from the rows and by `ridge`; later orders keep the sums, or damp in proportion
+-- by the normal equations of c columns, from the pair sums g and the target products m, however these were made (from the rows, or kept) and are damped
+-- (by `ridge` today; a later order damps in proportion)
 unfoldable pub by-sums : (Float → Float) → ℕ → Entry → (ℕ → Float) → Solution
 by-sums damp c g m = solution (normal c (jtj-matrix damp c g) (jtr-column c m))
 

@@ -3,6 +3,7 @@ pub mod Codes
 pub mod Rule
 pub mod Tasks
 pub mod Fits
+pub mod Kept
 pub mod Sizes
 pub mod Calls
 pub mod Accepted

@@ -3,15 +3,13 @@ use mathlib.Core.Path.{_≡_, refl, ap, _∙_}
 use mathlib.Core.Bool.{cond}
 use mathlib.Core.List.{List, []}
 use Prim.Native.Nat.{ℕ, zero, suc, _^_, _<_}
-use native.Mathlib.Omega.{arith}
 use lib.Count.{ones}
 use lib.Dec.{eqb}
 use lib.Ieee.{Float}
 use Rattle.steps.specs.Num.{Entry}
 use Rattle.support.specs.Word.{term}
 use Rattle.support.specs.WordLaws.{word-lt}
-use Rattle.support.specs.CountLaws.{ones-is}
-use Rattle.support.specs.TermLaws.{term-is}
+use Rattle.support.specs.TermLaws.{term-below}
 use Rattle.refusal.specs.Answers.{Solution, solved, refused}
 use Rattle.places.specs.Columns.{columns}
 use Rattle.rule.specs.declared.Task.{Task}
@@ -77,4 +75,4 @@ fit-entries task e f t h =
     (task .setup .«max_iter»)
   where
     cols : (w : ℕ) → w < 2 ^ task .cols → (i p : ℕ) → i < task .rows → p < ones w → columns (task .cols) w e i p ≡ columns (task .cols) w f i p
-    cols w b i p l k = columns-cong (task .cols) w e f i p (λ j a. h i j l a) (term-is (task .cols) w p (omega (arith, ones-is w (task .cols) b, k)) .below)
+    cols w b i p l k = columns-cong (task .cols) w e f i p (λ j a. h i j l a) (term-below (task .cols) w p b k)

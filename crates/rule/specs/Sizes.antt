@@ -16,9 +16,9 @@ use Rattle.rule.specs.declared.Solver.{Solver}
 use Rattle.rule.specs.declared.Solver.the-variants.{Normal, Qr}
 use Rattle.rule.specs.declared.Task.{Task}
 
--- the workspace of a fit, in numbers: `strlsq` r·c + 2·c² + c; `strlsq_qr` 2·(r+c)·c + 3·(r+c) + 3·c
+-- the workspace of a fit, in numbers: `strlsq` 3·c² + 2·c at any row count; `strlsq_qr` 2·(r+c)·c + 3·(r+c) + 3·c
 unfoldable pub fit-need : Solver → ℕ → ℕ → ℕ
-fit-need Normal r c = r * c + 2 * (c * c) + c
+fit-need Normal r c = 3 * (c * c) + 2 * c
 fit-need Qr r c = 2 * ((r + c) * c) + 3 * (r + c) + 3 * c
 
 abbrev pub task-need : Task → ℕ

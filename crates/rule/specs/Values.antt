@@ -7,7 +7,7 @@ use Prim.Native.Nat.{ℕ, _+_, _≤_, _<_}
 use native.Mathlib.Omega.{arith}
 use borrow.Author.Tests.{lt-ltb, le-ltb}
 use lib.Count.{ones}
-use lib.Dec.{eqb, ltb}
+use lib.Dec.{ltb}
 use lib.ListN.{length}
 use lib.Ieee.{Float, nan}
 use Rattle.steps.specs.Num.{+zero, at, Entry}
@@ -20,8 +20,8 @@ use Rattle.support.specs.CountLaws.{ones-full, place-is, count-full}
 use Rattle.refusal.specs.Answers.{solved, solution}
 use Rattle.places.specs.Columns.{columns}
 use Rattle.places.specs.ColumnLaws.{columns-full}
-use Rattle.sums.specs.Products.{gram, moment, ridge, damped, jtj-matrix, jtr-column}
-use Rattle.sums.specs.ProductLaws.{gram-cong, moment-cong}
+use Rattle.sums.specs.Products.{gram, moment, ridge, jtj-matrix, jtr-column}
+use Rattle.sums.specs.ProductLaws.{gram-cong, moment-cong, jtj-cong}
 use Rattle.normal.specs.Normal.{normal}
 use Rattle.least.specs.Least.{least}
 use Rattle.rule.specs.declared.Solver.{Solver}
@@ -52,6 +52,12 @@ one-a-column solver lambda t rows c e vs q = solved-column anything solver lambd
 
 -- ---- which entries it looks at
 
+-- by the normal equations: only at the sums of its columns
+pub sums-cong : (damp : Float → Float) (c : ℕ) (g h : Entry) (m k : ℕ → Float) → ((p q : ℕ) → p < c → q < c → g p q ≡ h p q) → ((p : ℕ) → p < c → m p ≡ k p)
+    → by-sums damp c g m ≡ by-sums damp c h k
+unfolding by-sums jtr-column
+sums-cong damp c g h m k a b = ap₂ (λ (x y : List Float). solution (normal c x y)) (jtj-cong damp c g h a) (tab-cong c m k b)
+
 -- a solve looks only at the entries of its rows and columns
 module _ (rows c : ℕ) (e f : Entry) (h : (i p : ℕ) → i < rows → p < c → e i p ≡ f i p) where
   augmented-cong : (root : Float) (i p : ℕ) → p < c → (i < rows) ⊎ (rows ≤ i) → augmented rows root e i p ≡ augmented rows root f i p
@@ -60,11 +66,9 @@ module _ (rows c : ℕ) (e f : Entry) (h : (i p : ℕ) → i < rows → p < c �
   augmented-cong root i p b (inr l) = rw (le-ltb i rows l)
 
   pub solves-cong : (solver : Solver) (lambda : Float) (t : ℕ → Float) → solves solver lambda t rows c e ≡ solves solver lambda t rows c f
-  unfolding solves by-normal by-sums jtj-matrix jtr-column damped by-least
+  unfolding solves by-normal by-least
   solves-cong Normal lambda t =
-      ap₂ (λ (a b : List Float). solution (normal c a b))
-      (table-cong c c _ _ (λ p q a b. ap (λ (x : Float). cond (eqb p q) (ridge lambda x) x) (gram-cong e f rows p q (λ i l. h i p l a) (λ i l. h i q l b))))
-      (tab-cong c _ _ (λ p a. moment-cong e f t rows p (λ i l. h i p l a)))
+      sums-cong (ridge lambda) c _ _ _ _ (λ p q a b. gram-cong e f rows p q (λ i l. h i p l a) (λ i l. h i q l b)) (λ p a. moment-cong e f t rows p (λ i l. h i p l a))
   solves-cong Qr lambda t =
       ap (λ (a : List Float). least (rows + c) c a (tab (rows + c) (padded rows t)))
       (table-cong (rows + c) c _ _ (λ i p a b. augmented-cong (rootOf lambda) i p b (lt-or-ge i rows)))

@@ -30,7 +30,7 @@ pub fn needed(solver: Solver, n_rows: usize, n_cols: usize) -> usize
     ensures { λ r. ⌜ r ≡ fit-need solver «n_rows» «n_cols» ⌝ }
 {
     match solver {
-        Solver::Normal => n_rows * n_cols + 2 * (n_cols * n_cols) + n_cols,
+        Solver::Normal => 3 * (n_cols * n_cols) + 2 * n_cols,
         Solver::Qr => 2 * ((n_rows + n_cols) * n_cols) + 3 * (n_rows + n_cols) + 3 * n_cols,
     }
 }

@@ -4,7 +4,7 @@ ghost use Prim.Native.Nat.{_+_, _*_, _≤_, _<_};
 ghost use lib.ListN.{length, set};
 ghost use Rattle.steps.specs.Num.{times, at, cell};
 ghost use Rattle.steps.specs.Sums.{less-sum};
-ghost use Rattle.steps.specs.Space.{cleared, part, withPart, swapped};
+ghost use Rattle.steps.specs.Space.{cleared, swapped};
 
 // A count of columns as it is, with a test that tells the compiler how few they are: it makes quicker loops of them.
 pub fn few(n: usize) -> usize
@@ -48,16 +48,6 @@ pub fn copy(from: &[f64], to: &mut [f64])
     let n = from.len();
     for i in 0..n {
         to[i] = from[i];
-    }
-}
-
-// The n numbers from `to` on become those from `from` on, which stand before them.
-pub fn copy_within(s: &mut [f64], from: usize, to: usize, n: usize)
-    requires { ⌜ (from + n ≤ to) × (to + n ≤ length (now s)) ⌝ }
-    ensures { λ _. ⌜ now (s .exit) ≡ withPart to (to + n) (part from (from + n) (now (s .entry))) (now (s .entry)) ⌝ }
-{
-    for i in 0..n {
-        s[to + i] = s[from + i];
     }
 }
 

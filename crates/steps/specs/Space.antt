@@ -9,7 +9,6 @@ use lib.ListN.{length, set, take, drop, replicate, length-append, length-take, l
 use lib.Seq.{take-at, drop-at, drop-drop, drop-append-add, getD-append-add, getD-take, getD-drop, drop-length}
 use lib.Ieee.{Float, nan}
 use Rattle.steps.specs.Num.{+zero, at}
-use Rattle.steps.specs.Table.{tab, is-tab}
 
 -- the first k numbers are +0.0, the others as they were
 unfoldable pub cleared : ℕ → List Float → List Float
@@ -94,11 +93,7 @@ cleared-with a e k t s h hk h' len = cleared-same k _ s (drop-with a e t s h (om
 pub cleared-head : (k need : ℕ) (t w : List Float) → k ≤ need → need ≤ length w → length t ≡ length (take (k - 0) w) → cleared need (withPart 0 k t w) ≡ cleared need w
 cleared-head k need t w h h' len = cleared-with 0 k need t w (omega arith) h h' (len ∙ simp length-take (omega arith))
 
--- what stands before a part and past it is as it was
-pub get-before : (a e : ℕ) (t s : List Float) (k : ℕ) → k < a → a ≤ length s → at (withPart a e t s) k ≡ at s k
-unfolding withPart
-get-before a e t s k h h' = List·getD-append (take a s) _ nan k (simp length-take (omega arith)) ∙ getD-take a s k nan h
-
+-- what stands past a part is as it was
 pub get-after : (a e : ℕ) (t s : List Float) (k : ℕ) → a ≤ e → e ≤ length s → length t ≡ e - a → e ≤ k → at (withPart a e t s) k ≡ at s k
 get-after a e t s k h h' len hk =
     sym (first (withPart a e t s)) ∙ ap (λ (l : List Float). getD l 0 nan) (drop-with a e t s h h' len k hk) ∙ first s
@@ -106,11 +101,9 @@ get-after a e t s k h h' len hk =
     first : (l : List Float) → getD (drop k l) 0 nan ≡ at l k
     first l = getD-drop k l 0 nan ∙ rw add-zero
 
--- a part by its numbers
-pub part-tab : (a n : ℕ) (s : List Float) → a + n ≤ length s → part a (a + n) s ≡ tab n (λ i. at s (a + i))
-part-tab a n s h =
-    let e : a + n - a ≡ n = omega arith in
-    rw e (is-tab n (λ i. at s (a + i)) (take n (drop a s)) nan (simp (length-take, length-drop) (omega arith)) (λ i k. getD-take n (drop a s) i nan k ∙ getD-drop a s i nan))
+-- lists with the same first h numbers have the same number at each of those places
+pub same-head : (h i : ℕ) (s t : List Float) → i < h → take h s ≡ take h t → at s i ≡ at t i
+same-head h i s t l e = sym (getD-take h s i nan l) ∙ ap (λ (x : List Float). at x i) e ∙ getD-take h t i nan l
 
 -- clearing the whole
 pub cleared-all : (k : ℕ) (s : List Float) → length s ≡ k → cleared k s ≡ replicate k +zero

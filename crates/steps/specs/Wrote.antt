@@ -1,17 +1,14 @@
 -- A loop that writes one place a turn, each place once: what stands there afterwards, whatever the order. Assumes nothing.
 use mathlib.Core.Path.{_≡_, refl, sym, ap, _∙_, subst}
-use mathlib.Core.Logic.{_⊎_, inl, inr, ⊎-elim}
+use mathlib.Core.Logic.{⊎-elim}
 use mathlib.Core.List.{List}
-use Prim.Native.Nat.{ℕ, _+_, _-_, _≤_, _<_}
+use Prim.Native.Nat.{ℕ, _+_, _≤_, _<_}
 use native.Mathlib.Nat.{eq-or-lt-of-le}
 use native.Mathlib.Omega.{arith}
 use lib.ListN.{length, set, length-set}
-use lib.Seq.{getD-set-same, getD-set-other, ext-getD}
+use lib.Seq.{getD-set-same, getD-set-other}
 use lib.Ieee.{Float, nan}
 use Rattle.steps.specs.Num.{at}
-use Rattle.steps.specs.Cond.{lt-or-ge}
-use Rattle.steps.specs.Table.{tab, length-tab, getD-tab}
-use Rattle.steps.specs.Space.{withPart, length-with, get-before, get-with, get-after}
 
 -- d' is d with g c at the place p c, for each c from lo to below hi
 pub record Wrote (p : ℕ → ℕ) (lo hi : ℕ) (g : ℕ → Float) (d d' : List Float) : Type 0 where
@@ -49,20 +46,3 @@ wrote-turn p f lo i d d' l b ne w = wrote-more p lo i (λ c. f c (at d (p c))) d
 
 pub wrote-end : (p : ℕ → ℕ) (lo i hi : ℕ) (g : ℕ → Float) (d d' : List Float) → Wrote p lo i g d d' → i ≤ hi → hi ≤ i → Wrote p lo hi g d d'
 wrote-end p lo i hi g d d' w h h' = let e : i ≡ hi = omega arith in rw e at w
-
--- a part that is written by rising place
-pub wrote-part : (a n : ℕ) (g : ℕ → Float) (d d' : List Float) → a + n ≤ length d → Wrote (λ i. a + i) 0 n g d d' → d' ≡ withPart a (a + n) (tab n g) d
-wrote-part a n g d d' h w =
-    ext-getD nan d' (withPart a (a + n) (tab n g) d) (w .long ∙ sym (length-with a (a + n) (tab n g) d (omega arith) h len)) (λ k l. by k (lt-or-ge k a) (lt-or-ge k (a + n)))
-  where
-    len : length (tab n g) ≡ a + n - a
-    len = length-tab n g ∙ (let e : n ≡ a + n - a = omega arith in e)
-
-    by : (k : ℕ) → (k < a) ⊎ (a ≤ k) → (k < a + n) ⊎ (a + n ≤ k) → at d' k ≡ at (withPart a (a + n) (tab n g) d) k
-    by k (inl b) q = w .rest k (λ c x y e. omega arith) ∙ sym (get-before a (a + n) (tab n g) d k b (omega arith))
-    by k (inr b) (inr q) = w .rest k (λ c x y e. omega arith) ∙ sym (get-after a (a + n) (tab n g) d k (omega arith) h len q)
-    by k (inr b) (inl q) =
-        let e : a + (k - a) ≡ k = omega arith in
-        let i : k - a < n = omega arith in
-        subst (λ (x : ℕ). at d' x ≡ at (withPart a (a + n) (tab n g) d) x) e
-        (w .done (k - a) (omega arith) i ∙ sym (get-with a (a + n) (tab n g) d (k - a) nan (omega arith) (omega (arith, length-tab n g)) ∙ getD-tab n g (k - a) nan i))

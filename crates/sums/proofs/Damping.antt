@@ -9,8 +9,8 @@ use lib.ListN.{length}
 use lib.Arith.{digits-div, digits-mod}
 use lib.Ieee.{Float, nan}
 use borrow.Author.Tests.{eq-eqb, ne-eqb}
-use Rattle.steps.specs.Num.{Entry, plus, at, cell}
-use Rattle.steps.specs.Table.{table, is-table, at-table, table-cong}
+use Rattle.steps.specs.Num.{plus, at, cell}
+use Rattle.steps.specs.Table.{is-table}
 use Rattle.steps.specs.Wrote.{Wrote, Apart}
 use Rattle.sums.specs.Products.{ridge, damped, jtj-matrix}
 
@@ -32,8 +32,3 @@ damped-diagonal lambda k d d' len w =
     (λ (ne : i ≡ j → ⊥).
     rw (ne-eqb i j ne)
     (w .rest (i * k + j) (λ c l l' e. let q = same-cell k i j c c hj l' e in ne (q .0 ∙ sym (q .1))))))
-
--- damping the finished matrix damps the sums
-pub damped-table : (damp : Float → Float) (k : ℕ) (g : Entry) → jtj-matrix damp k (cell k (table k k g)) ≡ jtj-matrix damp k g
-unfolding jtj-matrix damped
-damped-table damp k g = table-cong k k _ _ (λ i j hi hj. rw (at-table k k g i j nan hi hj))

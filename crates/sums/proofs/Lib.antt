@@ -1,5 +1,4 @@
 -- The laws that the functions' proofs share.
-pub mod Listed
 pub mod Walks
 pub mod Rows
 pub mod Damping

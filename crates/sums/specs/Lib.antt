@@ -2,3 +2,5 @@
 pub mod Products
 pub mod ProductLaws
 pub mod Inner
+pub mod Kept
+pub mod KeptLaws

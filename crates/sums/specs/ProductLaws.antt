@@ -1,13 +1,14 @@
--- One sum serves (p,q) and (q,p); equal entries give equal sums. Assumes nothing.
+-- One sum serves (p,q) and (q,p); equal entries give equal sums; a finished matrix is damped as its sums are. Assumes nothing.
 use mathlib.Core.Path.{_≡_, refl, ap, ap₂, _∙_}
 use mathlib.Core.Bool.{Bool, true, false, cond}
 use Prim.Native.Nat.{ℕ, _*_, _<_}
 use native.Mathlib.Nat.{mul-comm}
 use lib.Dec.{eqb}
 use lib.Ieee.{Float, Format, nan, inf, fin, mul, round, up, down, unlike, binary64}
-use Rattle.steps.specs.Num.{times, +zero, Entry}
+use Rattle.steps.specs.Num.{times, +zero, Entry, cell}
 use Rattle.steps.specs.Sums.{sum-cong}
-use Rattle.sums.specs.Products.{gram, moment}
+use Rattle.steps.specs.Table.{table, at-table, table-cong}
+use Rattle.sums.specs.Products.{gram, moment, damped, jtj-matrix}
 
 unlike-comm : (s t : Bool) → unlike s t ≡ unlike t s
 unlike-comm true true = refl
@@ -42,3 +43,12 @@ gram-cong e f rows p q h k = sum-cong +zero 0 rows _ _ (λ i a b. ap₂ times (h
 pub moment-cong : (e f : Entry) (t : ℕ → Float) (rows p : ℕ) → ((i : ℕ) → i < rows → e i p ≡ f i p) → moment e t rows p ≡ moment f t rows p
 unfolding moment
 moment-cong e f t rows p h = sum-cong +zero 0 rows _ _ (λ i a b. ap (λ (x : Float). times x (t i)) (h i b))
+
+-- equal sums give equal matrices
+pub jtj-cong : (damp : Float → Float) (k : ℕ) (g h : Entry) → ((p q : ℕ) → p < k → q < k → g p q ≡ h p q) → jtj-matrix damp k g ≡ jtj-matrix damp k h
+unfolding jtj-matrix damped
+jtj-cong damp k g h e = table-cong k k _ _ (λ p q hp hq. rw (e p q hp hq))
+
+-- damping the finished matrix damps the sums
+pub damped-table : (damp : Float → Float) (k : ℕ) (g : Entry) → jtj-matrix damp k (cell k (table k k g)) ≡ jtj-matrix damp k g
+damped-table damp k g = jtj-cong damp k _ _ (λ p q hp hq. at-table k k g p q nan hp hq)

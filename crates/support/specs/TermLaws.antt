@@ -67,6 +67,10 @@ pub term-is : (n w p : ℕ) → p < count (has w) n → Stands (has w) n p (term
 unfolding term
 term-is n w p h = terms-at (has w) n p n h
 
+-- the term of a place is one of the columns
+pub term-below : (n w p : ℕ) → w < 2 ^ n → p < ones w → term n w p < n
+term-below n w p h l = term-is n w p (rw (← ones-is w n h) l) .below
+
 -- the term of a term's place is that term
 pub term-of-place : (n w j : ℕ) → j < n → T (has w j) → term n w (count (has w) j) ≡ j
 term-of-place n w j l t =

@@ -31,12 +31,12 @@ abbrev pub task1 : ℕ → Task
 task1 limit = task-of Normal 2 2 (setup-of half +zero limit)
 
 -- F1 at a limit of 2, its slices zeros before
-pub F1-call : FitCall (task1 2) theta1 target1 (zeros 2) (three ∷ +zero ∷ []) (zeros 14) (zeros 14) (F.Fit settled)
+pub F1-call : FitCall (task1 2) theta1 target1 (zeros 2) (three ∷ +zero ∷ []) (zeros 16) (zeros 16) (F.Fit settled)
 unfolding fits fit-sizes limits lengths fit-need cleared
 F1-call = record { sizes = Done; judged = refl; answer = refl; coeffs = refl; space = refl }
 
 -- every larger permitted limit gives the same report and coefficients, whatever the slices held
-pub F1-stable : {m : ℕ} {ds ds' v v' : List Float} {answer : Fitted} → 2 ≤ m → m ≤ 1000 → length ds ≡ 2 → 14 ≤ length v
+pub F1-stable : {m : ℕ} {ds ds' v v' : List Float} {answer : Fitted} → 2 ≤ m → m ≤ 1000 → length ds ≡ 2 → 16 ≤ length v
     → FitCall (task1 m) theta1 target1 ds ds' v v' answer → (answer ≡ F.Fit settled) × (ds' ≡ three ∷ +zero ∷ [])
 unfolding fit-need
 F1-stable = calls-stable (task1 2) theta1 target1 F1-call (λ e. let z : _≡_ {A = ℕ} 0 1 = cc in absurd (omega arith))

@@ -10,7 +10,7 @@ use std::collections::BTreeMap;
 /// Only short inputs, so that the list stays small.
 const LONGEST: usize = 900;
 /// Inputs that are looked at, for each fault anew.
-const LOOKED_AT: u64 = 30_000;
+const LOOKED_AT: u64 = 40_000;
 /// Exchanges of each answer, of each trap, and of each other fault.
 const OF_AN_ANSWER: usize = 10;
 const OF_A_TRAP: usize = 10;

@@ -30,6 +30,7 @@ pub const KINDS: &[(&str, Make)] = &[
     ("special", sprinkled),
     ("partialnan", partial_nan),
     ("swinging", special::swinging),
+    ("falling", special::falling),
     ("subnormal", subnormal),
     ("wild", wild),
     ("atbound", special::at_bound),

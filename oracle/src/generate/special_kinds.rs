@@ -49,6 +49,39 @@ pub fn swinging(rng: &mut Rng, size: Size) -> Problem {
     p
 }
 
+/// Each term leans on another, and some are found small only after the refit without that one: these fall in turn, in
+/// any order of their numbers.
+pub fn falling(rng: &mut Rng, size: Size) -> Problem {
+    let cols = rng.between(1, 12.min(size.cols).min(size.rows));
+    let rows = rng.between(cols, (3 * cols).min(size.rows));
+    let mut p = Problem::zeros(solver(rng), rows, cols, setups::plain(rng));
+    let mut chain: Vec<usize> = (0..cols).collect();
+    for i in 1..cols {
+        chain.swap(i, rng.below(i + 1));
+    }
+    for row in 0..rows {
+        let mut before = 0.0;
+        for (i, &j) in chain.iter().enumerate() {
+            let own = if row % cols == i { 1.0 } else { 0.0 };
+            before = own + 0.05 * rng.signed() + 0.7 * before;
+            p.set(row, j, before);
+        }
+    }
+    let falls = rng.between(1, cols);
+    let truth = |i| match i {
+        0 => 0.2,
+        _ if i < falls => [0.3, -0.3][i % 2],
+        _ => 1.5,
+    };
+    for row in 0..rows {
+        let shares = chain.iter().enumerate();
+        p.target[row] = shares.map(|(i, &j)| truth(i) * p.at(row, j)).sum();
+    }
+    p.setup.threshold = 0.25;
+    p.setup.lambda = rng.pick(&[0.0, 1e-6, 0.01, 0.1]);
+    p
+}
+
 /// One column, or columns apart, whose pivot stands at a bound of its solver.
 pub fn at_bound(rng: &mut Rng, size: Size) -> Problem {
     let cols = rng.between(1, 3.min(size.cols));

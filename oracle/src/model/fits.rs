@@ -13,7 +13,7 @@ pub fn fit_workspace(solver: Solver, n_rows: usize, n_cols: usize) -> usize {
 fn workspace_of(solver: Solver, r: usize, c: usize) -> Option<usize> {
     limits(r, c).ok()?;
     Some(match solver {
-        Solver::Normal => r * c + 2 * c * c + c,
+        Solver::Normal => 3 * c * c + 2 * c,
         Solver::Qr => 2 * (r + c) * c + 3 * (r + c) + 3 * c,
     })
 }

@@ -3,6 +3,12 @@
 use crate::fault::{self, Fault};
 
 pub fn jtj(jac: &[f64], rows: usize, n: usize, lambda: f64, out: &mut [f64]) {
+    pair_sums(jac, rows, n, lambda, out);
+    damp(out, n, lambda);
+}
+
+/// The undamped sums; lambda is looked at by a fault only.
+pub fn pair_sums(jac: &[f64], rows: usize, n: usize, lambda: f64, out: &mut [f64]) {
     for p in 0..n {
         for q in p..n {
             let mut sum = fault::or(0.0, Fault::JtjFromMinusZero, -0.0);
@@ -25,6 +31,12 @@ pub fn jtj(jac: &[f64], rows: usize, n: usize, lambda: f64, out: &mut [f64]) {
                 out[q * n + p] = sum;
             }
         }
+    }
+}
+
+/// Lambda, once to each diagonal number.
+pub fn damp(out: &mut [f64], n: usize, lambda: f64) {
+    for p in 0..n {
         if !fault::is(Fault::JtjLambdaFirst) {
             out[p * n + p] += lambda;
         }

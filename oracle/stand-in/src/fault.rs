@@ -36,6 +36,7 @@ faults! {
     WorkspaceOneShortAccepted
     WorkspaceMustBeExact
     WorkspaceFormulaOneMore
+    WorkspaceOldFigure
     WorkspaceFormulaBeyondLimits
     // What slices hold afterwards.
     WorkspaceNotCleared
@@ -43,6 +44,7 @@ faults! {
     WorkspaceNotClearedWithoutData
     WorkspaceNotClearedAtFirstRefused
     WorkspaceClearedPastNeed
+    WorkspaceClearedOneShort
     WorkspaceClearedToMinusZero
     WorkspaceClearedWhenShort
     OutputClearedWhenRefused
@@ -136,6 +138,10 @@ faults! {
     FitsOnce
     LambdaNotRooted
     LambdaOnlyAtFirst
+    KeptDamped
+    BlockByPlace
+    ProductsByPlace
+    ProductsOverwritten
     OldValuesStay
     TermIsPlace
     TermIsPlaceByQr

@@ -1,6 +1,6 @@
 //! Both fits over one loop.
 
-use crate::builders::{jtj, jtr};
+use crate::builders::{damp, jtr, pair_sums};
 use crate::fault::{self, Fault};
 use crate::qr::least_squares;
 use crate::root::{abs, sqrt};
@@ -37,9 +37,45 @@ pub fn workspace(by_qr: bool, r: usize, c: usize) -> usize {
             .wrapping_add(thrice(rows))
             .wrapping_add(thrice(c))
     } else {
-        r.wrapping_mul(c)
-            .wrapping_add(twice(c.wrapping_mul(c)))
-            .wrapping_add(c)
+        let old = r.wrapping_mul(c).wrapping_add(twice(c.wrapping_mul(c)));
+        let kept = thrice(c.wrapping_mul(c)).wrapping_add(twice(c));
+        fault::or(kept, Fault::WorkspaceOldFigure, old.wrapping_add(c))
+    }
+}
+
+/// What the first pass keeps for every solve of the normal equations.
+struct Kept {
+    /// The pair sums of all columns, undamped.
+    sums: Vec<f64>,
+    /// Their products with the target.
+    products: Vec<f64>,
+}
+
+impl Kept {
+    fn of(fit: &Fit<'_>) -> Kept {
+        let c = fit.cols;
+        let (mut sums, mut products) = (vec![0.0; c * c], vec![0.0; c]);
+        pair_sums(fit.theta, fit.rows, c, fit.lambda, &mut sums);
+        jtr(fit.theta, fit.target, fit.rows, c, &mut products);
+        if fault::is(Fault::KeptDamped) {
+            damp(&mut sums, c, fit.lambda);
+        }
+        Kept { sums, products }
+    }
+
+    /// The block of some columns and their products.
+    fn block(&self, terms: &[usize]) -> (Vec<f64>, Vec<f64>) {
+        let n = self.products.len();
+        let term = |p: usize| fault::or(terms[p], Fault::BlockByPlace, p);
+        let places = 0..terms.len();
+        let row = |p: usize| {
+            places
+                .clone()
+                .map(move |q| self.sums[term(p) * n + term(q)])
+        };
+        let sums = places.clone().flat_map(row).collect();
+        let product = |p: usize| self.products[fault::or(term(p), Fault::ProductsByPlace, p)];
+        (sums, places.clone().map(product).collect())
     }
 }
 
@@ -96,7 +132,8 @@ impl Fit<'_> {
             return (0, 0);
         }
         let all: Vec<usize> = (0..self.cols).collect();
-        let values = match self.solve(&all, false) {
+        let mut kept = (!self.by_qr).then(|| Kept::of(self));
+        let values = match self.solve(&mut kept, &all, false) {
             Ok(values) => values,
             Err(col) => {
                 *term = col as u64;
@@ -133,7 +170,7 @@ impl Fit<'_> {
                 continue;
             }
             let terms: Vec<usize> = (0..self.cols).filter(|&j| support & bit(j) != 0).collect();
-            let values = match self.solve(&terms, true) {
+            let values = match self.solve(&mut kept, &terms, true) {
                 Ok(values) => values,
                 Err(col) => {
                     let place = if self.by_qr {
@@ -193,22 +230,30 @@ impl Fit<'_> {
     }
 
     /// The solve over some columns, or the place among them at which it refused.
-    fn solve(&self, terms: &[usize], again: bool) -> Result<Vec<f64>, usize> {
+    fn solve(
+        &self,
+        kept: &mut Option<Kept>,
+        terms: &[usize],
+        again: bool,
+    ) -> Result<Vec<f64>, usize> {
         let lambda = if again && fault::is(Fault::LambdaOnlyAtFirst) {
             0.0
         } else {
             self.lambda
         };
         let (r, c) = (self.rows, terms.len());
+        if let Some(kept) = kept {
+            let (mut a, mut b) = kept.block(terms);
+            damp(&mut a, c, lambda);
+            normal_equations(&a, &mut b, c)?;
+            if fault::is(Fault::ProductsOverwritten) {
+                kept.products[..c].copy_from_slice(&b);
+            }
+            return Ok(b);
+        }
         let mut part = Vec::with_capacity((r + c) * c);
         for row in 0..r {
             part.extend(terms.iter().map(|j| self.theta[row * self.cols + j]));
-        }
-        if !self.by_qr {
-            let (mut a, mut b) = (vec![0.0; c * c], vec![0.0; c]);
-            jtj(&part, r, c, lambda, &mut a);
-            jtr(&part, self.target, r, c, &mut b);
-            return normal_equations(&a, &mut b, c).map(|()| b);
         }
         let root = fault::or(sqrt(lambda), Fault::LambdaNotRooted, lambda);
         for i in 0..c {

@@ -101,5 +101,6 @@ pub fn clear(workspace: &mut [f64], needed: usize) {
         Fault::WorkspaceClearedPastNeed,
         workspace.len(),
     );
+    let to = to - fault::or(0, Fault::WorkspaceClearedOneShort, to.min(1));
     workspace[..to].fill(fault::or(0.0, Fault::WorkspaceClearedToMinusZero, -0.0));
 }

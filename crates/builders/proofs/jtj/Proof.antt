@@ -1,7 +1,7 @@
--- `jtj` meets its contract: refused by its sizes, else `jtj_of` at the full support.
+-- `jtj` meets its contract: refused by its sizes, else the pair sums, damped.
 use mathlib.Core.Path.{sym, _∙_}
 use borrow.Author.Needs.{needs}
-use Rattle.builders.proofs.Full.{within-full, count-all, jtj-full}
+use Rattle.sums.specs.ProductLaws.{damped-table}
 use Rattle.builders.specs.Sizes.{jtj-fits}
 use Rattle.builders.proofs.jtj.Statement.{statement}
 use Rattle.builders.proofs.jtj.Tie as tie
@@ -23,35 +23,36 @@ few-requires c κs =
     let sizes = c .before .before .jtj-sizes in
     jtj-fits (sizes .ensures) (c .enum-told .given .1) .0 .few-columns
 
-full-requires : tie.Need-full-requires
-full-requires c κs = search needs
+jtj-sums-requires : tie.Need-jtj-sums-requires
+jtj-sums-requires c κs =
+    let accepted = c .before .before in
+    rw (c .before .few .ensures) (jtj-fits (accepted .before .before .jtj-sizes .ensures) (accepted .enum-told .given .1))
 
-jtj-of-requires : tie.Need-jtj-of-requires
-jtj-of-requires c κs =
-    let full = c .before .full .ensures in
-    let told = c .before .before in
+damp-requires : tie.Need-damp-requires
+damp-requires c κs =
+    let summed = c .before .before .before in
+    let told = summed .before .before in
     let accepted = told .before in
     let fits = jtj-fits (accepted .before .before .jtj-sizes .ensures) (accepted .enum-told .given .1) in
-    let few = fits .0 .few-columns in
-    (rw (told .few .ensures) (within-full _ _ few full _ _ (fits .0 .few-rows) (fits .0 .cells)), rw (count-all _ _ few full) (fits .1))
+    summed .jtj-sums .kept .1 .1 .1 .0 ∙ rw (told .few .ensures) (fits .1)
 
 same-length : tie.Need-same-length
 same-length c = search needs
 
 returns-2 : tie.Need-returns-2
 returns-2 c =
-    let made = c .before .before in
-    let told = made .before .before .before in
+    let done = c .before .before in
+    let summed = done .before .before .before .before in
+    let told = summed .before .before in
     let accepted = told .before in
     let sizes = accepted .before .before .jtj-sizes in
-    let done = accepted .enum-told .given .1 in
-    let fits = jtj-fits (sizes .ensures) done in
+    let accept = accepted .enum-told .given .1 in
     record {
-      answer = sym done ∙ sizes .ensures;
-      matrix = rw (told .few .ensures) at (made .jtj-of .ensures) ∙ jtj-full _ _ (fits .0 .few-columns) (made .before .before .full .ensures) _ _ _;
+      answer = sym accept ∙ sizes .ensures;
+      matrix = rw (done .damp .ensures, summed .jtj-sums .ensures, told .few .ensures) (damped-table _ _ _);
     }
 
 pub jtj-spec : {M : Type 1} → statement M
 jtj-spec =
     tie.close
-    (tie.spec jtj-sizes-requires enum-told enum-told-2 returns few-requires full-requires jtj-of-requires same-length returns-2)
+    (tie.spec jtj-sizes-requires enum-told enum-told-2 returns few-requires jtj-sums-requires damp-requires same-length returns-2)

@@ -1,44 +1,27 @@
-// A solve by the normal equations over a support's columns.
+// A solve by the normal equations over a support's columns, from the kept sums: it reads no row.
 ghost use mathlib.Core.Path.{_≡_};
-ghost use Prim.Native.Nat.{_≤_};
-ghost use lib.ListN.{length};
-ghost use Rattle.rule.specs.Fits.{problem-of};
-ghost use Rattle.rule.specs.Sizes.{task-need};
-ghost use Rattle.refit.specs.Parts.{Counted, gave};
-use normal::inner::normal_equations_packed;
+ghost use Prim.Native.Nat.{_+_, _*_, _^_, _≤_, _<_};
+ghost use lib.Count.{ones};
+ghost use lib.ListN.{length, take};
+ghost use Rattle.sums.specs.Products.{ridge};
+ghost use Rattle.sums.specs.Kept.{kept-size};
+ghost use Rattle.rule.specs.Kept.{from-kept};
+ghost use Rattle.refit.specs.Parts.{gave};
+use block::inner::solve_block;
 use refusal::Solved;
-use rule::Solver;
 use rule::Task;
 use slices::inner::few;
-use sums::inner::jtj_of;
-use sums::inner::jtr_of;
 use support::Support;
 
-// The right-hand side and the values in b, the matrix and a copy of it, n_active * n_active numbers each, at the head of the workspace.
-pub fn solve_normal(
-    task: Task,
-    theta: &[f64],
-    target: &[f64],
-    support: Support,
-    b: &mut [f64],
-    ws: &mut [f64],
-) -> Solved
-    requires { ⌜ Counted task (now theta) (now target) (support .0) (length (now b)) × (task-need task ≤ length (now ws)) × (task .solver ≡ Solver.Normal) ⌝ }
-    ensures { λ r. ⌜ gave r (now (b .exit)) ≡ problem-of task (now (theta .entry)) (now (target .entry)) .solve (support .0) ⌝ }
+// The right-hand side and the values in b, the block behind the kept sums of the workspace, which stay as they are.
+pub fn solve_normal(task: Task, support: Support, b: &mut [f64], ws: &mut [f64]) -> Solved
+    requires { ⌜ (task .cols ≤ 64) × (support .0 < 2 ^ task .cols) × (length (now b) ≡ ones (support .0)) × (kept-size (task .cols) + length (now b) * length (now b) ≤ length (now ws)) ⌝ }
+    ensures { λ r. ⌜ (gave r (now (b .exit)) ≡ from-kept (ridge (task .setup .lambda)) (task .cols) (now (ws .entry)) (support .0))
+        × (take (kept-size (task .cols)) (now (ws .exit)) ≡ take (kept-size (task .cols)) (now (ws .entry))) ⌝ }
 {
     let setup = task.setup;
     let n_cols = few(task.cols);
     let n_active = b.len();
-    let e = n_active * n_active;
-    let f = 2 * e;
-    jtj_of(
-        theta,
-        task.rows,
-        n_cols,
-        support,
-        setup.lambda,
-        &mut ws[0..e],
-    );
-    jtr_of(theta, target, task.rows, task.cols, support, b);
-    normal_equations_packed(&mut ws[0..f], b, n_active)
+    let e = n_cols * n_cols + n_cols + n_active * n_active;
+    solve_block(&mut ws[0..e], n_cols, support, setup.lambda, b)
 }

@@ -167,7 +167,7 @@ fn run_model(call: &mut Call, solver: Solver) -> u64 {
     }
 }
 
-/// The refusal's number, or the stop.
+/// The refusal's number, or the stop, and whether it took more than one refit.
 fn label(call: &Call, answer: u64) -> String {
     if answer != 0 {
         return answer.to_string();
@@ -175,5 +175,10 @@ fn label(call: &Call, answer: u64) -> String {
     let stop = Stop::ALL
         .into_iter()
         .find(|stop| stop.code() == call.report[0]);
-    stop.map_or("0".into(), |stop| format!("0 {stop:?}"))
+    let several = if call.report[1] > 1 {
+        ", several refits"
+    } else {
+        ""
+    };
+    stop.map_or("0".into(), |stop| format!("0 {stop:?}{several}"))
 }

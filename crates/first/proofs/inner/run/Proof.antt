@@ -1,5 +1,5 @@
--- `run` meets its contract: no data, a first solve that is refused, or the rounds after it.
-use mathlib.Core.Path.{_≡_, _∙_}
+-- `run` meets its contract: no data, a first solve that is refused, or the rounds after it. What the fit keeps is there before the first solve.
+use mathlib.Core.Path.{_≡_, refl, _∙_}
 use mathlib.Core.List.{List}
 use mathlib.Core.Logic.{_≢_}
 use borrow.Author.Needs.{needs}
@@ -24,13 +24,21 @@ module _ (c : tie.Else2) where
   some-cols : start .args .task .cols ≢ 0
   some-cols = c .if2 .left
 
+-- after what the fit keeps is there, and the support of all columns
+module _ (c : tie.After-full) where
+  abbrev keeping : tie.After-keep
+  keeping = c .before .before .before
+
+  abbrev some : tie.Else2
+  some = keeping .before .before
+
 -- after the solve over all columns
 module _ (c : tie.After-solve-terms) where
   abbrev all : tie.After-full
   all = c .before .before .before
 
   abbrev begin : tie.Start
-  begin = start (all .before)
+  begin = start (some all)
 
   abbrev new-coeffs : List Float
   new-coeffs = c .solve-terms .last .1 .1 .1 .1 .0
@@ -59,14 +67,21 @@ returns-2 c =
     let a = begin .args in
     no-cols (a .task) (now (a .theta)) (now (a .target)) (at-if1 .if1 .left) (c .if2 .taken) (none-left (a .task .cols) (now (a .coeffs)) (c .if2 .taken) (begin .pre .coeffs-long))
 
+keep-requires : tie.Need-keep-requires
+keep-requires c κs = search needs
+
 full-requires : tie.Need-full-requires
 full-requires c κs = search needs
 
 solve-terms-requires : tie.Need-solve-terms-requires
 solve-terms-requires c κs =
     let whole = c .before .before in
-    let begin = start (whole .before) in
-    (begin .pre, rw (whole .full .ensures) (full-lt (begin .args .task .cols) (begin .pre .sized .limited .few-cols)))
+    let begin = start (some whole) in
+    let kept = keeping whole .keep in (
+      still (begin .pre) refl (kept .kept .1 .1 .1 .0),
+      rw (whole .full .ensures) (full-lt (begin .args .task .cols) (begin .pre .sized .limited .few-cols)),
+      kept .ensures,
+    )
 
 enum-told : tie.Need-enum-told
 enum-told c = search needs
@@ -76,9 +91,10 @@ rounds-requires c κs =
     let told = c .before .before in
     let s = told .before .before .before .before .before .before in
     let a = begin s .args in (
-      still (begin s .pre) (s .solve-terms .kept .1 .1 .1 .1 .0) (s .solve-terms .kept .1 .1 .1 .1 .1 .0),
-      first-goes (a .task) (now (a .theta)) (now (a .target)) (some-rows (all s .before)) (some-cols (all s .before)) (begin s .pre .sized .limited .few-cols)
-          (all s .full .result .0) (all s .full .ensures) (s .solve-terms .result) (new-coeffs s) (s .solve-terms .ensures) (told .enum-told .given .1),
+      still (begin s .pre) (s .solve-terms .kept .1 .1 .1 .1 .0) (s .solve-terms .kept .1 .1 .1 .1 .1 .0 ∙ keeping (all s) .keep .kept .1 .1 .1 .0),
+      s .solve-terms .ensures .1,
+      first-goes (a .task) (now (a .theta)) (now (a .target)) (some-rows (some (all s))) (some-cols (some (all s))) (begin s .pre .sized .limited .few-cols)
+          (all s .full .result .0) (all s .full .ensures) (s .solve-terms .result) (new-coeffs s) (s .solve-terms .ensures .0) (told .enum-told .given .1),
     )
 
 enum-known-term : tie.Need-enum-known-term
@@ -108,13 +124,13 @@ returns-4 c =
     let refused = at-clear .before .before .before in
     let s = refused .before .before .before .before .before .before in
     let a = begin s .args in
-    first-refused (a .task) (now (a .theta)) (now (a .target)) (some-rows (all s .before)) (some-cols (all s .before)) (begin s .pre .sized .limited .few-cols)
-    (all s .full .result .0) (all s .full .ensures) (s .solve-terms .result) (new-coeffs s) (s .solve-terms .ensures)
+    first-refused (a .task) (now (a .theta)) (now (a .target)) (some-rows (some (all s))) (some-cols (some (all s))) (begin s .pre .sized .limited .few-cols)
+    (all s .full .result .0) (all s .full .ensures) (s .solve-terms .result) (new-coeffs s) (s .solve-terms .ensures .0)
     _ _ (refused .term .given .1) (new-long s) (at-clear .clear2 .ensures)
 
 pub run-spec : {M : Type 1} → statement M
 run-spec =
     tie.close
     (tie.spec
-    clear-requires same-length returns returns-2 full-requires solve-terms-requires enum-told rounds-requires enum-known-term clear-requires-2 same-length-2 same-length-3
+    clear-requires same-length returns returns-2 keep-requires full-requires solve-terms-requires enum-told rounds-requires enum-known-term clear-requires-2 same-length-2 same-length-3
     returns-3 same-length-4 same-length-5 returns-4)

@@ -1,6 +1,6 @@
 -- `normal_equations` meets its contract: both solves see a copy of the matrix.
 use borrow.Author.Needs.{needs}
-use Rattle.normal.proofs.Ends.{normal-goes, normal-by-lu}
+use Rattle.normal.specs.Ends.{normal-goes, normal-by-lu}
 use Rattle.normal.proofs.inner.normal_equations.Statement.{statement}
 use Rattle.normal.proofs.inner.normal_equations.Tie as tie
 

@@ -80,8 +80,11 @@ returns c =
     let told = put .before .before in
     let solve = told .before .before .before .before .before .before in
     let n = counted solve in
-    done-out _ _ _ (solve .solve-columns .result) (values solve) (rest solve) (told .enum-told .given .1) (solve .solve-columns .ensures)
-    (all solve) (start n .pre .1) (long solve ∙ n .count .ensures) (put .scatter .ensures)
+    let made = solve .solve-columns .ensures in (
+      done-out _ _ _ (solve .solve-columns .result) (values solve) (rest solve) (told .enum-told .given .1) (made .0)
+          (all solve) (start n .pre .1) (long solve ∙ n .count .ensures) (put .scatter .ensures),
+      made .1,
+    )
 
 same-length-3 : tie.Need-same-length-3
 same-length-3 c = search needs
@@ -93,7 +96,8 @@ returns-2 : tie.Need-returns-2
 returns-2 c =
     let refused = c .before .before in
     let solve = refused .before .before .before .before .before .before in
-    refused-out _ _ _ (solve .solve-columns .result) _ _ _ (refused .col .given .1) (c .term-at .ensures) (solve .solve-columns .ensures)
+    let made = solve .solve-columns .ensures in
+    (refused-out _ _ _ (solve .solve-columns .result) _ _ _ (refused .col .given .1) (c .term-at .ensures) (made .0), made .1)
 
 pub solve-terms-spec : {M : Type 1} → statement M
 solve-terms-spec =

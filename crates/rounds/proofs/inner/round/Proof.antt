@@ -2,7 +2,6 @@
 use mathlib.Core.Path.{_≡_, refl, _∙_}
 use mathlib.Core.List.{List}
 use mathlib.Core.Logic.{_≢_}
-use native.Mathlib.Omega.{arith}
 use borrow.Author.Needs.{needs}
 use lib.ListN.{length}
 use lib.Ieee.{Float}
@@ -21,7 +20,7 @@ module _ (c : tie.After-support-of) where
   task = start .args .task
 
   long : length (now (start .args .coeffs)) ≡ task .cols
-  long = start .pre .coeffs-long
+  long = start .pre .0 .coeffs-long
 
 -- after the first test: a support that is not empty
 module _ (c : tie.Else1) where
@@ -73,9 +72,11 @@ returns c =
     let at-clear = c .before .before in
     let empty = at-clear .before .before in
     let l = empty .before .before .before in
-    let a = start l .args in
-    turn-empty (a .task) (now (a .theta)) (now (a .target)) (a .last .0) (now (a .coeffs)) (long l) (l .support-of .result) (l .support-of .ensures)
-    (tested-yes _ _ 0 (empty .before .same .ensures) (empty .before .before .empty .ensures) (empty .if1 .taken)) (at-clear .clear .ensures)
+    let a = start l .args in (
+      turn-empty (a .task) (now (a .theta)) (now (a .target)) (a .last .0) (now (a .coeffs)) (long l) (l .support-of .result) (l .support-of .ensures)
+          (tested-yes _ _ 0 (empty .before .same .ensures) (empty .before .before .empty .ensures) (empty .if1 .taken)) (at-clear .clear .ensures),
+      start l .pre .1,
+    )
 
 same-requires-2 : tie.Need-same-requires-2
 same-requires-2 c κs = search needs
@@ -86,14 +87,16 @@ same-length-2 c = search needs
 returns-2 : tie.Need-returns-2
 returns-2 c =
     let l = looked (c .before .before) in
-    let a = start l .args in
-    turn-settled (a .task) (now (a .theta)) (now (a .target)) (a .last .0) (now (a .coeffs)) (long l) (l .support-of .result) (l .support-of .ensures)
-    (some (c .before .before)) (tested-yes _ _ _ (c .before .same2 .ensures) refl (c .if2 .taken))
+    let a = start l .args in (
+      turn-settled (a .task) (now (a .theta)) (now (a .target)) (a .last .0) (now (a .coeffs)) (long l) (l .support-of .result) (l .support-of .ensures)
+          (some (c .before .before)) (tested-yes _ _ _ (c .before .same2 .ensures) refl (c .if2 .taken)),
+      start l .pre .1,
+    )
 
 solve-terms-requires : tie.Need-solve-terms-requires
 solve-terms-requires c κs =
     let l = found (c .before .before) in
-    (start l .pre, support-fits _ _ _ (now (start l .args .coeffs)) (l .support-of .ensures) (long l))
+    (start l .pre .0, support-fits _ _ _ (now (start l .args .coeffs)) (l .support-of .ensures) (long l), start l .pre .1)
 
 enum-told : tie.Need-enum-told
 enum-told c = search needs
@@ -113,9 +116,11 @@ same-length-4 c = search needs
 returns-3 : tie.Need-returns-3
 returns-3 c =
     let s = c .before .before .before .before .before .before in
-    let a = start (over s) .args in
-    turn-again (a .task) (now (a .theta)) (now (a .target)) (a .last .0) (now (a .coeffs)) (long (over s)) (over s .support-of .result) (over s .support-of .ensures)
-    (some (tested s .before .before)) (other (tested s)) (s .solve-terms .result) (new-coeffs s) (s .solve-terms .ensures) (c .enum-told .given .1)
+    let a = start (over s) .args in (
+      turn-again (a .task) (now (a .theta)) (now (a .target)) (a .last .0) (now (a .coeffs)) (long (over s)) (over s .support-of .result) (over s .support-of .ensures)
+          (some (tested s .before .before)) (other (tested s)) (s .solve-terms .result) (new-coeffs s) (s .solve-terms .ensures .0) (c .enum-told .given .1),
+      s .solve-terms .ensures .1,
+    )
 
 same-length-5 : tie.Need-same-length-5
 same-length-5 c = search needs
@@ -128,10 +133,12 @@ returns-4 c =
     let at-clear = c .before .before in
     let refused = at-clear .before .before .before in
     let s = refused .before .before .before .before .before .before in
-    let a = start (over s) .args in
-    turn-refused (a .task) (now (a .theta)) (now (a .target)) (a .last .0) (now (a .coeffs)) (long (over s)) (over s .support-of .result) (over s .support-of .ensures)
-    (some (tested s .before .before)) (other (tested s)) (s .solve-terms .result) (new-coeffs s) (s .solve-terms .ensures)
-    _ _ (refused .term .given .1) (new-long s) (at-clear .clear2 .ensures)
+    let a = start (over s) .args in (
+      turn-refused (a .task) (now (a .theta)) (now (a .target)) (a .last .0) (now (a .coeffs)) (long (over s)) (over s .support-of .result) (over s .support-of .ensures)
+          (some (tested s .before .before)) (other (tested s)) (s .solve-terms .result) (new-coeffs s) (s .solve-terms .ensures .0)
+          _ _ (refused .term .given .1) (new-long s) (at-clear .clear2 .ensures),
+      s .solve-terms .ensures .1,
+    )
 
 pub round-spec : {M : Type 1} → statement M
 round-spec =

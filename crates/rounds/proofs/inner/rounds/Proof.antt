@@ -1,5 +1,6 @@
--- `rounds` meets its contract. The loop's invariant: after this many rounds, each of which refitted, the rule goes on with these coefficients and this last support.
-use mathlib.Core.Path.{_≡_, refl, sym, subst, _∙_}
+-- `rounds` meets its contract. The loop's invariant: after this many rounds, each of which refitted, the rule goes on with these coefficients and this last support,
+-- and what the fit keeps in its workspace is there: it outlives each solve.
+use mathlib.Core.Path.{_≡_, refl, subst, _∙_}
 use mathlib.Core.List.{List, []}
 use Prim.Native.Nat.{ℕ, _-_, _≤_, _<_}
 use native.Mathlib.Omega.{arith}
@@ -10,6 +11,7 @@ use denote.Ref.{now}
 use Rattle.rule.specs.Rule.{Problem, rounds}
 use Rattle.rule.specs.Fits.{problem-of}
 use Rattle.rule.specs.Sizes.{Ready, still}
+use Rattle.refit.specs.Parts.{Kept}
 use Rattle.rounds.specs.Turned.{Turned}
 use Rattle.rounds.specs.declared.inner.Turn.{Turn}
 use Rattle.rounds.proofs.Turns.{Going, used-up, goes-on, ends-empty, ends-settled, ends-refused}
@@ -20,7 +22,7 @@ use Rattle.rounds.proofs.inner.rounds.Tie as tie
 abbrev Inv-loop : tie.InvT-loop
 Inv-loop task theta target coeffs₀ ws₀ setup last₀ refits₀ refits-end coeffs ws last refits =
     (refits-end ≡ task .setup .«max_iter») × (refits ≤ refits-end) × (length coeffs ≡ length coeffs₀) × (length ws ≡ length ws₀)
-    × Going (problem-of task theta target) refits coeffs (last .0)
+    × Going (problem-of task theta target) refits coeffs (last .0) × Kept task theta target ws
 
 abbrev μ-loop : tie.MeasureT-loop
 μ-loop task theta target coeffs₀ ws₀ setup last₀ refits₀ refits-end coeffs ws last refits = refits-end - refits
@@ -55,7 +57,7 @@ module _ (c : tie.After-round Inv-loop μ-loop) where
 
   -- what it came to
   came : (t : Turn) → c .round .result ≡ t → Turned P (turn .before .loop .last .0) (turn .before .loop .coeffs) t new-coeffs
-  came t e = subst (λ (s : Turn). Turned P (turn .before .loop .last .0) (turn .before .loop .coeffs) s new-coeffs) e (c .round .ensures)
+  came t e = subst (λ (s : Turn). Turned P (turn .before .loop .last .0) (turn .before .loop .coeffs) s new-coeffs) e (c .round .ensures .0)
 
 -- after the loop: the rounds are used up
 module _ (c : tie.After-loop Inv-loop μ-loop) where
@@ -80,10 +82,10 @@ loop-holds : tie.Need-loop-holds Inv-loop μ-loop
 unfolding rounds
 loop-holds c =
     let begin = c .before .before .before .before .before .before in
-    (refl, omega arith, refl, refl, record { past = []; state = begin .pre .1; last-is = c .empty .ensures; count-is = refl })
+    (refl, omega arith, refl, refl, record { past = []; state = begin .pre .2; last-is = c .empty .ensures; count-is = refl }, begin .pre .1)
 
 round-requires : tie.Need-round-requires Inv-loop μ-loop
-round-requires c κs = ready (c .before .before)
+round-requires c κs = (ready (c .before .before), c .before .before .before .loop .inv .5)
 
 enum-known-support : tie.Need-enum-known-support Inv-loop μ-loop
 enum-known-support c = search needs
@@ -146,7 +148,8 @@ loop-less c =
 loop-again : tie.Need-loop-again Inv-loop μ-loop
 loop-again c =
     let r = c .before .before .before .before .before .before .before in
-    (turn r .before .loop .inv .0, omega (arith, in-limit (turn r)), same-coeffs r, same-space r, goes-on (P r) (turn r .before .loop .inv .4) _ (came r _ (c .before .support .given .1)))
+    let inv = turn r .before .loop .inv in
+    (inv .0, omega (arith, in-limit (turn r)), same-coeffs r, same-space r, goes-on (P r) (inv .4) _ (came r _ (c .before .support .given .1)), r .round .ensures .1)
 
 support-of-requires : tie.Need-support-of-requires Inv-loop μ-loop
 support-of-requires c κs = omega (arith, coeffs-long (c .before), begin (c .before) .pre .0 .sized .limited .few-cols)

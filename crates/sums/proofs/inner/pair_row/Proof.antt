@@ -1,6 +1,4 @@
 -- `pair_row` meets its contract: the sums of one walk, then put to the row and the column.
-use Prim.Native.Nat.{_≤_}
-use native.Mathlib.Omega.{arith}
 use borrow.Author.Needs.{needs}
 use Rattle.sums.proofs.Rows.{row-filled}
 use Rattle.sums.proofs.Walks.{zeros}
@@ -12,8 +10,8 @@ slice-aggregate-pair-sums c = search needs
 
 pair-sums-requires : tie.Need-pair-sums-requires
 pair-sums-requires c κs =
-    let start = c .before .before .before .before in
-    let few : start .args .k ≤ 64 = omega (arith, start .pre .0 .few, start .pre .0 .few-columns) in
+    let start = c .before .before .before in
+    let few = start .pre .0 .few-columns in
     (start .pre .0, start .pre .1, few, zeros _ _ few)
 
 slice-aggregate-put-row : tie.Need-slice-aggregate-put-row

@@ -7,7 +7,7 @@ use Rattle.sums.proofs.inner.put_both.Statement.{statement}
 use Rattle.sums.proofs.inner.put_both.Tie as tie
 
 -- both places are within the matrix
-inside : (c : tie.Start) → let a = c .args in (a .p .0 * a .k + a .q .0 < a .k * a .k) × (a .q .0 * a .k + a .p .0 < a .k * a .k)
+inside : (c : tie.Start) → let a = c .args in (a .p .0 * a .n-cols + a .q .0 < a .n-cols * a .n-cols) × (a .q .0 * a .n-cols + a .p .0 < a .n-cols * a .n-cols)
 inside c = (digits-lt (c .pre .1) (c .pre .2), digits-lt (c .pre .2) (c .pre .1))
 
 put-requires : tie.Need-put-requires

@@ -9,10 +9,10 @@ use Rattle.sums.proofs.inner.put_row.Statement.{statement}
 use Rattle.sums.proofs.inner.put_row.Tie as tie
 
 abbrev Inv-loop : tie.InvT-loop
-Inv-loop sums k p out₀ q₀ out q = (p .0 ≤ q) × (q ≤ k) × RowDone (at sums) k (p .0) q out₀ out
+Inv-loop sums n-cols p out₀ q₀ out q = (p .0 ≤ q) × (q ≤ n-cols) × RowDone (at sums) n-cols (p .0) q out₀ out
 
 abbrev μ-loop : tie.MeasureT-loop
-μ-loop sums k p out₀ q₀ out q = k - q
+μ-loop sums n-cols p out₀ q₀ out q = n-cols - q
 
 loop-holds : tie.Need-loop-holds Inv-loop μ-loop
 loop-holds c = (omega arith, omega arith, row-none _ _ _ _)
@@ -50,7 +50,7 @@ same-length c = c .before .loop .inv .2 .long
 
 returns : tie.Need-returns Inv-loop μ-loop
 returns c =
-    let all : c .before .loop .q ≡ c .before .before .before .before .args .k = omega arith in
+    let all : c .before .loop .q ≡ c .before .before .before .before .args .n-cols = omega arith in
     rw all at (c .before .loop .inv .2)
 
 pub put-row-spec : {M : Type 1} → statement M

@@ -4,16 +4,15 @@ use native.Mathlib.Omega.{arith}
 use denote.Ref.{now}
 use Rattle.steps.specs.Num.{plus, times, at, cell}
 use Rattle.steps.specs.Wrote.{Wrote, wrote-none, wrote-turn, wrote-end}
-use Rattle.places.specs.Columns.{listed}
 use Rattle.sums.proofs.walk.add_row.Statement.{statement}
 use Rattle.sums.proofs.walk.add_row.Tie as tie
 
 abbrev Inv-loop : tie.InvT-loop
-Inv-loop theta n-rows n-cols terms k i x sums₀ q₀ sums q =
-    (q₀ ≤ q) × (q ≤ k) × Wrote (λ q. q) q₀ q (λ q. plus (at sums₀ q) (times x (listed terms (cell n-cols theta) i q))) sums₀ sums
+Inv-loop theta n-cols i x sums₀ q₀ sums q =
+    (q₀ ≤ q) × (q ≤ n-cols) × Wrote (λ q. q) q₀ q (λ q. plus (at sums₀ q) (times x (cell n-cols theta i q))) sums₀ sums
 
 abbrev μ-loop : tie.MeasureT-loop
-μ-loop theta n-rows n-cols terms k i x sums₀ q₀ sums q = k - q
+μ-loop theta n-cols i x sums₀ q₀ sums q = n-cols - q
 
 loop-holds : tie.Need-loop-holds Inv-loop μ-loop
 loop-holds c = (omega arith, omega arith, wrote-none _ _ _ _)
@@ -24,10 +23,8 @@ mul-sums c = omega arith
 slice-read-sums : tie.Need-slice-read-sums Inv-loop μ-loop
 slice-read-sums c = omega arith
 
-at-place-requires : tie.Need-at-place-requires Inv-loop μ-loop
-at-place-requires c κs =
-    let start = c .before .before .before .before .before .before in
-    (start .pre .0, start .pre .1, omega arith)
+at-term-requires : tie.Need-at-term-requires Inv-loop μ-loop
+at-term-requires c κs = omega arith
 
 mul-sums-2 : tie.Need-mul-sums-2 Inv-loop μ-loop
 mul-sums-2 c = omega arith
@@ -44,13 +41,13 @@ loop-less c = omega arith
 loop-again : tie.Need-loop-again Inv-loop μ-loop
 loop-again c =
     let at-loop = c .before .before .before in
-    let start = at-loop .before .before .before .before in
+    let start = at-loop .before .before .before in
     let turn = at-loop .loop in
     let a = start .args in (
       omega arith,
       omega arith,
-      rw (c .at-place .ensures)
-          (wrote-turn (λ q. q) (λ q s. plus s (times (a .x) (listed (now (a .terms)) (cell (a .n-cols) (now (a .theta))) (a .i) q)))
+      rw (c .at-term .ensures)
+          (wrote-turn (λ q. q) (λ q s. plus s (times (a .x) (cell (a .n-cols) (now (a .theta)) (a .i) q)))
           (a .lo .0) (turn .q) (now (a .sums)) (turn .sums) (turn .inv .0) (omega arith) (λ q h h' e. omega arith) (turn .inv .2)),
     )
 
@@ -63,4 +60,4 @@ returns c = let end = c .before .loop in wrote-end _ _ (end .q) _ _ _ _ (end .in
 pub add-row-spec : {M : Type 1} → statement M
 add-row-spec =
     tie.close
-    (tie.spec Inv-loop μ-loop loop-holds mul-sums slice-read-sums at-place-requires mul-sums-2 slice-write-sums add-q loop-less loop-again same-length returns)
+    (tie.spec Inv-loop μ-loop loop-holds mul-sums slice-read-sums at-term-requires mul-sums-2 slice-write-sums add-q loop-less loop-again same-length returns)

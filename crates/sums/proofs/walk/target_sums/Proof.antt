@@ -4,7 +4,7 @@ use Prim.Native.Nat.{_-_, _≤_}
 use native.Mathlib.Omega.{arith}
 use lib.ListN.{length}
 use Rattle.steps.specs.Num.{at, cell}
-use Rattle.places.specs.Columns.{listed}
+use Rattle.steps.specs.Table.{row-fits}
 use Rattle.sums.specs.Products.{moment}
 use Rattle.sums.specs.Inner.{Filled}
 use Rattle.sums.proofs.Walks.{targets-none, targets-more}
@@ -12,14 +12,14 @@ use Rattle.sums.proofs.walk.target_sums.Statement.{statement}
 use Rattle.sums.proofs.walk.target_sums.Tie as tie
 
 abbrev Inv-loop : tie.InvT-loop
-Inv-loop theta target n-rows n-cols terms k sums₀ i₀ sums i =
-    (i ≤ n-rows) × (length sums ≡ length sums₀) × Filled 0 k (moment (listed terms (cell n-cols theta)) (at target) i) sums
+Inv-loop theta target n-rows n-cols sums₀ i₀ sums i =
+    (i ≤ n-rows) × (length sums ≡ length sums₀) × Filled 0 n-cols (moment (cell n-cols theta) (at target) i) sums
 
 abbrev μ-loop : tie.MeasureT-loop
-μ-loop theta target n-rows n-cols terms k sums₀ i₀ sums i = n-rows - i
+μ-loop theta target n-rows n-cols sums₀ i₀ sums i = n-rows - i
 
 loop-holds : tie.Need-loop-holds Inv-loop μ-loop
-loop-holds c = (omega arith, refl, targets-none _ _ _ _ _ (c .before .before .before .before .pre .3))
+loop-holds c = (omega arith, refl, targets-none _ _ _ _ _ (c .before .before .before .pre .3))
 
 mul-add-row : tie.Need-mul-add-row Inv-loop μ-loop
 mul-add-row c = omega arith
@@ -30,8 +30,8 @@ shared-slice-read-add-row c = omega arith
 add-row-requires : tie.Need-add-row-requires Inv-loop μ-loop
 add-row-requires c κs =
     let head = c .before .before .before in
-    let start = head .before .before .before .before .before in
-    (start .pre .0, c .before .before .loop-test .taken, omega arith, omega (arith, start .pre .2, head .loop .inv .1))
+    let start = head .before .before .before .before in
+    (rw (start .pre .0 .cells) (row-fits _ _ _ (c .before .before .loop-test .taken)), omega arith, omega (arith, start .pre .2, head .loop .inv .1))
 
 add-i : tie.Need-add-i Inv-loop μ-loop
 add-i c = omega (arith, c .before .before .before .before .before .loop-test .taken)
@@ -47,7 +47,7 @@ loop-again c =
     let row = at-add-row .add-row in
     let turn = at-loop .loop in (
       omega (arith, at-loop-test .loop-test .taken),
-      row .kept .1 .1 .1 .1 .1 .1 .1 .1 .0 ∙ turn .inv .1,
+      row .kept .1 .1 .1 .1 .1 .0 ∙ turn .inv .1,
       targets-more _ _ _ _ _ _ _ (row .ensures) _ refl (turn .inv .2),
     )
 
@@ -57,7 +57,7 @@ same-length c = c .before .loop .inv .1
 returns : tie.Need-returns Inv-loop μ-loop
 returns c =
     let at-loop = c .before in
-    let start = at-loop .before .before .before .before .before in
+    let start = at-loop .before .before .before .before in
     let end = at-loop .loop in
     let all : end .i ≡ start .args .n-rows = omega arith in
     rw all at (end .inv .2)

@@ -1,73 +1,60 @@
--- `solve_normal` meets its contract: the sums of the support's columns, then the normal equations of them.
-use mathlib.Core.Path.{_≡_, _∙_, ap}
-use Prim.Native.Nat.{ℕ, _*_, _-_, _≤_}
+-- `solve_normal` meets its contract: the solve from the kept sums, in as much of the workspace as it needs.
+use mathlib.Core.Path.{ap, _∙_}
+use Prim.Native.Nat.{ℕ, _+_, _*_, _≤_}
+use native.Mathlib.Nat.{mul-le-mul}
 use native.Mathlib.Omega.{arith}
 use borrow.Author.Needs.{needs}
 use denote.Ref.{now}
-use lib.ListN.{length, take, length-append, length-drop}
+use lib.ListN.{length}
+use Rattle.steps.specs.Space.{withPart}
 use Rattle.refusal.specs.Answers.{solution}
-use Rattle.refit.proofs.Large.{pairs, columns-in, normal-fits}
+use Rattle.sums.specs.Products.{ridge}
+use Rattle.sums.specs.Kept.{kept-size}
+use Rattle.rule.specs.Fits.{by-sums}
+use Rattle.rule.specs.Kept.{from-kept}
 use Rattle.refit.proofs.Joined.{length-head}
-use Rattle.refit.proofs.Ends.{normal-is}
+use Rattle.refit.proofs.Kept.{from-lent, head-left}
 use Rattle.refit.proofs.inner.by_normal.solve_normal.Statement.{statement}
 use Rattle.refit.proofs.inner.by_normal.solve_normal.Tie as tie
 
--- the room of the matrix, and of two of them
 module _ (c : tie.Start) where
-  abbrev square : ℕ
-  square = length (now (c .args .b)) * length (now (c .args .b))
+  -- the room of the kept sums and the block
+  abbrev room : ℕ
+  room = kept-size (c .args .task .cols) + length (now (c .args .b)) * length (now (c .args .b))
 
-  fits : 2 * square ≤ length (now (c .args .ws))
-  fits = normal-fits (c .pre .0) (c .pre .1) (c .pre .2)
-
-  head : length (take (square - 0) (now (c .args .ws))) ≡ square
-  head = let one : square ≤ length (now (c .args .ws)) = omega (arith, fits) in length-head square (now (c .args .ws)) one
+  small : c .args .task .cols * c .args .task .cols ≤ 64 * 64
+  small = mul-le-mul (c .pre .0) (c .pre .0)
 
 few-requires : tie.Need-few-requires
-few-requires c κs = let start = c .before .before .before .before .before in start .pre .0 .sized .limited .few-cols
+few-requires c κs = search needs
 
 mul-e : tie.Need-mul-e
-mul-e c = let start = c .before .before .before .before .before .before in omega (arith, pairs (start .pre .0))
+mul-e c = let start = c .before .before .before .before in rw (c .few .ensures) (omega (arith, start .pre .0, small start))
 
-mul-f : tie.Need-mul-f
-mul-f c = let start = c .before .before .before .before .before .before in omega (arith, pairs (start .pre .0))
+add-e : tie.Need-add-e
+add-e c = let start = c .before .before .before .before in rw (c .few .ensures) (omega (arith, start .pre .0, small start))
 
-sub-jtj-of : tie.Need-sub-jtj-of
-sub-jtj-of c = search needs
+mul-e-2 : tie.Need-mul-e-2
+mul-e-2 c = search needs
 
-part-jtj-of-start : tie.Need-part-jtj-of-start
-part-jtj-of-start c = search needs
+add-e-2 : tie.Need-add-e-2
+add-e-2 c = let start = c .before .before .before .before in rw (c .few .ensures) (omega (arith, start .pre .0, small start, start .pre .3))
 
-part-jtj-of-end : tie.Need-part-jtj-of-end
-part-jtj-of-end c = let start = c .before .before .before .before .before .before in omega (arith, fits start)
+sub-solve-block : tie.Need-sub-solve-block
+sub-solve-block c = search needs
 
-jtj-of-requires : tie.Need-jtj-of-requires
-jtj-of-requires c κs =
-    let told = c .before in
-    let start = told .before .before .before .before .before .before in
-    (rw (told .few .ensures) (columns-in (start .pre .0)), rw (← start .pre .0 .count) (head start))
+part-solve-block-start : tie.Need-part-solve-block-start
+part-solve-block-start c = search needs
 
-jtr-of-requires : tie.Need-jtr-of-requires
-jtr-of-requires c κs =
-    let told = c .before .before .before .before .before in
-    let start = told .before .before .before .before .before .before in
-    (columns-in (start .pre .0), start .pre .0 .sized .target-long, start .pre .0 .count)
+part-solve-block-end : tie.Need-part-solve-block-end
+part-solve-block-end c = rw (c .few .ensures) (c .before .before .before .before .pre .3)
 
-sub-normal-equations-packed : tie.Need-sub-normal-equations-packed
-sub-normal-equations-packed c = search needs
-
-part-normal-equations-packed-start : tie.Need-part-normal-equations-packed-start
-part-normal-equations-packed-start c = search needs
-
-part-normal-equations-packed-end : tie.Need-part-normal-equations-packed-end
-part-normal-equations-packed-end c =
-    let matrix = c .before .before .before .before .before .before in
-    let told = matrix .before .before in
-    let start = told .before .before .before .before .before .before in
-    simp (length-append, length-drop) (omega (arith, fits start, head start, matrix .jtj-of .kept .1 .1 .1 .1 .1 .0))
-
-normal-equations-packed-requires : tie.Need-normal-equations-packed-requires
-normal-equations-packed-requires c κs = search needs
+solve-block-requires : tie.Need-solve-block-requires
+solve-block-requires c κs =
+    let told = c .before .before in
+    let start = told .before .before .before .before in
+    let e = room start in
+    rw (told .few .ensures) (start .pre .0, start .pre .1, start .pre .2, length-head e (now (start .args .ws)) (start .pre .3))
 
 same-length : tie.Need-same-length
 same-length c = search needs
@@ -76,32 +63,20 @@ same-length-2 : tie.Need-same-length-2
 same-length-2 c = search needs
 
 returns : tie.Need-returns
+unfolding withPart from-kept by-sums
 returns c =
     let solve = c .before .before .before .before in
-    let right = solve .before .before .before .before .before in
-    let matrix = right .before .before .before .before in
-    let told = matrix .before .before in
-    let start = told .before .before .before .before .before .before in
-    let long = matrix .jtj-of .kept .1 .1 .1 .1 .1 .0 ∙ head start in
-    ap solution (solve .normal-equations-packed .ensures)
-    ∙ normal-is (start .pre .0) (start .pre .2) _ long (rw (told .few .ensures) at (matrix .jtj-of .ensures)) (right .jtr-of .ensures)
+    let told = solve .before .before .before in
+    let start = told .before .before .before .before in
+    let a = start .args in
+    let ws = now (a .ws) in
+    let made = rw (told .few .ensures) at (solve .solve-block .ensures) in
+    let kept = rw (told .few .ensures) at (solve .solve-block .kept .0) in (
+      ap solution (made .values) ∙ from-lent (a .task .cols) (room start) ws (omega arith) (start .pre .3) (ridge (a .task .setup .lambda)) (a .support .0) (start .pre .1),
+      rw (told .few .ensures) (head-left (a .task .cols) (room start) ws (omega arith) (start .pre .3) (solve .solve-block .last .0) kept (made .kept)),
+    )
 
 pub solve-normal-spec : {M : Type 1} → statement M
 solve-normal-spec =
     tie.close
-    (tie.spec
-    few-requires
-    mul-e
-    mul-f
-    sub-jtj-of
-    part-jtj-of-start
-    part-jtj-of-end
-    jtj-of-requires
-    jtr-of-requires
-    sub-normal-equations-packed
-    part-normal-equations-packed-start
-    part-normal-equations-packed-end
-    normal-equations-packed-requires
-    same-length
-    same-length-2
-    returns)
+    (tie.spec few-requires mul-e add-e mul-e-2 add-e-2 sub-solve-block part-solve-block-start part-solve-block-end solve-block-requires same-length same-length-2 returns)

@@ -1,0 +1,3 @@
+-- A block of kept sums, and a solve of it. Assumes nothing.
+pub mod Listed
+pub mod Solved

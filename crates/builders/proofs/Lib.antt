@@ -1,2 +1,0 @@
--- The laws that the functions' proofs share.
-pub mod Full

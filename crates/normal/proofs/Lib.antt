@@ -1,2 +1,0 @@
--- The ways out of the solve. Assumes nothing.
-mod Ends
