@@ -255,7 +255,7 @@ fn sizes() -> Vec<Line> {
         };
         let mut p = Problem::zeros(Solver::Normal, 1, cols, setup);
         p.theta.fill(1.0);
-        let needed = cols + 2 * cols * cols + cols;
+        let needed = 3 * cols * cols + 2 * cols;
         let (mut coeffs, mut workspace) = (vec![1.0; cols], vec![1.0; needed - short]);
         model::fit(
             Solver::Normal,

@@ -103,6 +103,8 @@ pub struct Plan {
 }
 
 impl Plan {
+    pub const RIGHT: Plan = Plan { right: true };
+
     /// Right twice in three calls.
     pub fn new(rng: &mut Rng) -> Plan {
         Plan {

@@ -6,9 +6,9 @@ use crate::sizes::{Plan, given, junk};
 use dapmotar::raw;
 use oracle::fit::Stop;
 use oracle::generate::kinds::{self, Size};
-use oracle::generate::setups;
+use oracle::generate::{setups, special_kinds};
 use oracle::model;
-use oracle::problem::{Setup, Solver};
+use oracle::problem::{Problem, Setup, Solver};
 use oracle::refusal::{MAX_COLS, MAX_ROUNDS, MAX_ROWS};
 use oracle::rng::Rng;
 
@@ -26,6 +26,16 @@ pub const STRLSQ_QR: Function = Function {
     library: |call| library(call, raw::dapmotar_strlsq_qr),
     model: |call| run_model(call, Solver::Qr),
     label,
+};
+
+/// Calls of `strlsq` that mostly refit several times.
+pub const STRLSQ_REFITS: Function = Function {
+    name: "strlsq_refits",
+    make: |rng| {
+        let problem = several_refits(rng);
+        of(rng, Plan::RIGHT, Solver::Normal, problem)
+    },
+    ..STRLSQ
 };
 
 /// The most that a fit takes.
@@ -53,6 +63,20 @@ fn right(rng: &mut Rng, plan: Plan, solver: Solver) -> Call {
             break problem;
         }
     };
+    of(rng, plan, solver, problem)
+}
+
+/// Terms that fall in turn, and rounds for some of them.
+fn several_refits(rng: &mut Rng) -> Problem {
+    loop {
+        let problem = special_kinds::falling(rng, SIZE);
+        if problem.cols > 2 && problem.setup.max_iter > 1 {
+            return problem;
+        }
+    }
+}
+
+fn of(rng: &mut Rng, plan: Plan, solver: Solver, problem: Problem) -> Call {
     let sizes = [problem.rows, problem.cols];
     call(
         rng,

@@ -9,8 +9,8 @@ mod square;
 use crate::call::Function;
 pub use fits::SIZE as FIT_SIZE;
 
-/// Every export.
-pub const ALL: [Function; 13] = [
+/// Every export, and `strlsq` once more with many refits.
+pub const ALL: [Function; 14] = [
     scalars::SQRT,
     scalars::ABS,
     builders::JTJ,
@@ -22,6 +22,7 @@ pub const ALL: [Function; 13] = [
     qr::LEAST_SQUARES,
     fits::STRLSQ,
     fits::STRLSQ_QR,
+    fits::STRLSQ_REFITS,
     scalars::STRLSQ_WORKSPACE,
     scalars::STRLSQ_QR_WORKSPACE,
 ];
