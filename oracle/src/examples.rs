@@ -26,6 +26,7 @@ pub fn all() -> Vec<Example> {
         example("last-round", f1(0.5, 1), Stop::Settled),
         example("no-round", f1(0.5, 0), Stop::OutOfRounds),
         example("eight-ports", eight_ports(), Stop::Settled),
+        example("one-by-one", one_by_one(), Stop::Settled),
         example("in-series", in_series(0.0), Stop::FirstRefused),
         example("in-series-damped", in_series(0.0625), Stop::Settled),
         example("in-series-refit", g8(), Stop::RefitRefused),
@@ -74,6 +75,23 @@ fn readings(solver: Solver, rows: usize, shares: &[f64], noise: f64, setup: Setu
 fn eight_ports() -> Problem {
     let shares = [1.5, 0.0, -0.75, 0.0, 0.0, 2.25, 0.0, 0.5];
     readings(Solver::Normal, 24, &shares, 0.2, setup(0.125, 1e-6))
+}
+
+/// Five ports, each of which also reads three quarters of the one before it. Port 0 is small; each time that a port is
+/// dropped, the one behind it takes over a part of its share and is small then.
+fn one_by_one() -> Problem {
+    let shares = [0.125, -0.25, 0.25, 1.0, -2.0];
+    let mut p = Problem::zeros(Solver::Normal, 5, 5, setup(0.2, 0.0));
+    for row in 0..5 {
+        let mut before = 0.0;
+        for (port, share) in shares.iter().enumerate() {
+            let own = if row == port { 1.0 } else { 0.0 };
+            before = own + 0.75 * before;
+            p.set(row, port, before);
+            p.target[row] += share * before;
+        }
+    }
+    p
 }
 
 /// Two ports in series read alike: no solve can tell them apart, unless lambda is above zero.
