@@ -10,7 +10,7 @@ use Rattle.steps.specs.Wrote.{Wrote}
 use Rattle.places.specs.Columns.{Names}
 use Rattle.sums.specs.Kept.{kept-size, pair, product}
 
--- a table of k of the n columns, and a list of just their kept sums and a block
+-- a table of k of the n columns, and a list of just the kept sums of all n and room for a block of those k
 pub record Room (n k : ℕ) (table : List ℕ) (s : List Float) : Type 0 where
   pub names : Names n k table
   pub long : length s ≡ kept-size n + k * k
