@@ -4,7 +4,6 @@ mod sizes;
 ghost use Rattle.sums.specs.Products.{ridge};
 ghost use Rattle.builders.specs.Calls.{JtjCall, JtrCall};
 use refusal::Answer;
-use slices::inner::few;
 use sums::inner::damp;
 use sums::inner::jtj_sums;
 use sums::inner::jtr_sums;
@@ -17,9 +16,8 @@ pub fn jtj(jac: &[f64], n_rows: usize, n_params: usize, lambda: f64, out: &mut [
     let Answer::Done = sizes else {
         return sizes;
     };
-    let n_cols = few(n_params);
-    jtj_sums(jac, n_rows, n_cols, out);
-    damp(out, n_cols, lambda);
+    jtj_sums(jac, n_rows, n_params, out);
+    damp(out, n_params, lambda);
     Answer::Done
 }
 

@@ -15,7 +15,6 @@ use coeffs::inner::scatter;
 use refusal::Solved;
 use rule::Solver;
 use rule::Task;
-use slices::inner::few;
 use support::Col;
 use support::Support;
 use support::Term;
@@ -28,7 +27,7 @@ pub fn keep(task: Task, theta: &[f64], target: &[f64], ws: &mut [f64])
     let solver = task.solver;
     match solver {
         Solver::Normal => {
-            let n_cols = few(task.cols);
+            let n_cols = task.cols;
             let h = n_cols * n_cols + n_cols;
             keep_sums(theta, target, task.rows, n_cols, &mut ws[0..h]);
         }

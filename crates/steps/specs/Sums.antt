@@ -1,6 +1,8 @@
 -- Sums from a given start, by rising index: every addition, or subtraction, rounds once. Assumes nothing.
-use mathlib.Core.Path.{_≡_, sym, ap, ap₂, _∙_}
-use Prim.Native.Nat.{ℕ, _+_, _≤_, _<_}
+use mathlib.Core.Path.{_≡_, refl, sym, ap, ap₂, _∙_}
+use Prim.Native.Nat.{ℕ, zero, suc, _+_, _≤_, _<_}
+use native.Mathlib.Nat.{add-zero}
+use native.Mathlib.Omega.{arith}
 use lib.Ieee.{Float}
 use Rattle.steps.specs.Num.{plus, less}
 use Rattle.steps.specs.Loops.{loop, loop-none, loop-step, loop-end, loop-cong}
@@ -26,6 +28,17 @@ sum-end z lo i hi f p h k = loop-end lo i hi (λ k s. plus s (f k)) z p h k
 pub sum-cong : (z : Float) (lo hi : ℕ) (f g : ℕ → Float) → ((i : ℕ) → lo ≤ i → i < hi → f i ≡ g i) → sum z lo hi f ≡ sum z lo hi g
 unfolding sum
 sum-cong z lo hi f g h = loop-cong lo hi _ _ z (λ i s a b. ap (plus s) (h i a b))
+
+-- a sum goes on from what it is after i terms
+pub sum-on : (z : Float) (i h : ℕ) (f : ℕ → Float) → sum z 0 (i + h) f ≡ sum (sum z 0 i f) 0 h (λ k. f (i + k))
+sum-on z i zero f = rw add-zero (sym (sum-none _ _ _))
+sum-on z i (suc h) f =
+    let e : i + suc h ≡ i + h + 1 = omega arith in
+    let e' : suc h ≡ h + 1 = omega arith in
+    ap (λ (k : ℕ). sum z 0 k f) e
+    ∙ sym (sum-more z 0 (i + h) f (omega arith) refl refl)
+    ∙ sum-more (sum z 0 i f) 0 h (λ k. f (i + k)) (omega arith) (sum-on z i h f) refl
+    ∙ ap (λ (k : ℕ). sum (sum z 0 i f) 0 k (λ k. f (i + k))) (sym e')
 
 -- z - f lo - .. - f (hi - 1)
 unfoldable pub less-sum : Float → ℕ → ℕ → (ℕ → Float) → Float

@@ -1,4 +1,4 @@
 -- The laws that the functions' proofs share.
 pub mod Walks
-pub mod Rows
+pub mod Mirrored
 pub mod Damping

@@ -1,7 +1,7 @@
 -- A walk of the rows that keeps sums side by side: what they are before the first row, and after one more. Assumes nothing.
 use mathlib.Core.Path.{_≡_, sym, ap, _∙_}
 use mathlib.Core.List.{List}
-use Prim.Native.Nat.{ℕ, _+_, _≤_}
+use Prim.Native.Nat.{ℕ, _+_}
 use native.Mathlib.Omega.{arith}
 use lib.ListN.{length, drop, replicate, length-replicate, getD-replicate, List·getD-append}
 use lib.Ieee.{Float, nan, binary64}
@@ -10,39 +10,28 @@ use Rattle.steps.specs.Sums.{sum-none, sum-more}
 use Rattle.steps.specs.Table.{is-tab}
 use Rattle.steps.specs.Space.{cleared}
 use Rattle.steps.specs.Wrote.{Wrote}
-use Rattle.sums.specs.Products.{gram, moment, jtr-column}
+use Rattle.sums.specs.Products.{moment, jtr-column}
 use Rattle.sums.specs.ProductLaws.{times-comm}
 use Rattle.sums.specs.Inner.{Filled}
 
--- the walk's row adds the products of x and the row's entries
-module _ (e : Entry) (lo k i : ℕ) (x : Float) (s s' : List Float) (w : Wrote (λ q. q) lo k (λ q. plus (at s q) (times x (e i q))) s s') where
-  pub pairs-more : (p : ℕ) → x ≡ e i p → Filled lo k (gram e i p) s → Filled lo k (gram e (i + 1) p) s'
-  unfolding gram
-  pairs-more p h l =
-      record { each = λ q a b. w .done q a b ∙ sum-more +zero 0 i _ (omega arith) (l .each q a b) (ap (λ (z : Float). times z (e i q)) h) }
-
-  pub targets-more : (t : ℕ → Float) → x ≡ t i → Filled lo k (moment e t i) s → Filled lo k (moment e t (i + 1)) s'
-  unfolding moment
-  targets-more t h l =
-      record { each = λ q a b. w .done q a b ∙ sum-more +zero 0 i _ (omega arith) (l .each q a b) (times-comm binary64 x (e i q) ∙ ap (times (e i q)) h) }
-
-pub pairs-none : (e : Entry) (lo k p : ℕ) (s : List Float) → Filled lo k (λ q. +zero) s → Filled lo k (gram e 0 p) s
-unfolding gram
-pairs-none e lo k p s l = record { each = λ q a b. l .each q a b ∙ sym (sum-none _ _ _) }
-
-pub targets-none : (e : Entry) (lo k : ℕ) (t : ℕ → Float) (s : List Float) → Filled lo k (λ q. +zero) s → Filled lo k (moment e t 0) s
+-- a row more: the products of x and the row's entries are added
+pub targets-more : (e : Entry) (n i : ℕ) (x : Float) (s s' : List Float) (t : ℕ → Float) → Wrote (λ q. q) 0 n (λ q. plus (at s q) (times x (e i q))) s s' → x ≡ t i →
+    Filled n (moment e t i) s → Filled n (moment e t (i + 1)) s'
 unfolding moment
-targets-none e lo k t s l = record { each = λ q a b. l .each q a b ∙ sym (sum-none _ _ _) }
+targets-more e n i x s s' t w h l =
+    record { each = λ q b. w .done q (omega arith) b ∙ sum-more +zero 0 i _ (omega arith) (l .each q b) (times-comm binary64 x (e i q) ∙ ap (times (e i q)) h) }
 
--- sums from +0.0: of an array of 64, and of a cleared slice
-pub zeros : (lo k : ℕ) → k ≤ 64 → Filled lo k (λ q. +zero) (replicate 64 +zero)
-zeros lo k h = record { each = λ q a b. getD-replicate 64 q +zero nan (omega arith) }
+-- no row yet
+pub targets-none : (e : Entry) (n : ℕ) (t : ℕ → Float) (s : List Float) → Filled n (λ q. +zero) s → Filled n (moment e t 0) s
+unfolding moment
+targets-none e n t s l = record { each = λ q b. l .each q b ∙ sym (sum-none _ _ _) }
 
-pub cleared-zeros : (k : ℕ) (s : List Float) → Filled 0 k (λ q. +zero) (cleared k s)
+-- sums from +0.0, of a cleared slice
+pub cleared-zeros : (k : ℕ) (s : List Float) → Filled k (λ q. +zero) (cleared k s)
 unfolding cleared
-cleared-zeros k s = record { each = λ q a b. List·getD-append (replicate k +zero) (drop k s) nan q (simp length-replicate b) ∙ getD-replicate k q +zero nan b }
+cleared-zeros k s = record { each = λ q b. List·getD-append (replicate k +zero) (drop k s) nan q (simp length-replicate b) ∙ getD-replicate k q +zero nan b }
 
 -- a slice of k numbers that holds them all is their column
-pub filled-all : (k : ℕ) (g : ℕ → Float) (s : List Float) → length s ≡ k → Filled 0 k g s → s ≡ jtr-column k g
+pub filled-all : (k : ℕ) (g : ℕ → Float) (s : List Float) → length s ≡ k → Filled k g s → s ≡ jtr-column k g
 unfolding jtr-column
-filled-all k g s len l = is-tab k g s nan len (λ q b. l .each q (omega arith) b)
+filled-all k g s len l = is-tab k g s nan len (l .each)

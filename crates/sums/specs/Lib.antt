@@ -2,5 +2,7 @@
 pub mod Products
 pub mod ProductLaws
 pub mod Inner
+pub mod Pages
+pub mod PageLaws
 pub mod Kept
 pub mod KeptLaws

@@ -5,7 +5,7 @@ use Prim.Native.Nat.{ℕ, _*_, _<_}
 use native.Mathlib.Nat.{mul-comm}
 use lib.Dec.{eqb}
 use lib.Ieee.{Float, Format, nan, inf, fin, mul, round, up, down, unlike, binary64}
-use Rattle.steps.specs.Num.{times, +zero, Entry, cell}
+use Rattle.steps.specs.Num.{times, Entry, cell}
 use Rattle.steps.specs.Sums.{sum-cong}
 use Rattle.steps.specs.Table.{table, at-table, table-cong}
 use Rattle.sums.specs.Products.{gram, moment, damped, jtj-matrix}
@@ -33,16 +33,16 @@ times-comm f (fin s m e) (fin t n d) =
 -- the sum goes to both (p,q) and (q,p)
 pub gram-both : (e : Entry) (rows p q : ℕ) → gram e rows p q ≡ gram e rows q p
 unfolding gram
-gram-both e rows p q = sum-cong +zero 0 rows _ _ (λ i a b. times-comm binary64 (e i p) (e i q))
+gram-both e rows p q = sum-cong _ 0 rows _ _ (λ i a b. times-comm binary64 (e i p) (e i q))
 
 -- sums look only at the entries of the rows
 pub gram-cong : (e f : Entry) (rows p q : ℕ) → ((i : ℕ) → i < rows → e i p ≡ f i p) → ((i : ℕ) → i < rows → e i q ≡ f i q) → gram e rows p q ≡ gram f rows p q
 unfolding gram
-gram-cong e f rows p q h k = sum-cong +zero 0 rows _ _ (λ i a b. ap₂ times (h i b) (k i b))
+gram-cong e f rows p q h k = sum-cong _ 0 rows _ _ (λ i a b. ap₂ times (h i b) (k i b))
 
 pub moment-cong : (e f : Entry) (t : ℕ → Float) (rows p : ℕ) → ((i : ℕ) → i < rows → e i p ≡ f i p) → moment e t rows p ≡ moment f t rows p
 unfolding moment
-moment-cong e f t rows p h = sum-cong +zero 0 rows _ _ (λ i a b. ap (λ (x : Float). times x (t i)) (h i b))
+moment-cong e f t rows p h = sum-cong _ 0 rows _ _ (λ i a b. ap (λ (x : Float). times x (t i)) (h i b))
 
 -- equal sums give equal matrices
 pub jtj-cong : (damp : Float → Float) (k : ℕ) (g h : Entry) → ((p q : ℕ) → p < k → q < k → g p q ≡ h p q) → jtj-matrix damp k g ≡ jtj-matrix damp k h

@@ -18,23 +18,17 @@ enum-told-2 c = search needs
 returns : tie.Need-returns
 returns c = search needs
 
-few-requires : tie.Need-few-requires
-few-requires c κs =
-    let sizes = c .before .before .jtj-sizes in
-    jtj-fits (sizes .ensures) (c .enum-told .given .1) .0 .few-columns
-
 jtj-sums-requires : tie.Need-jtj-sums-requires
 jtj-sums-requires c κs =
-    let accepted = c .before .before in
-    rw (c .before .few .ensures) (jtj-fits (accepted .before .before .jtj-sizes .ensures) (accepted .enum-told .given .1))
+    let accepted = c .before in
+    jtj-fits (accepted .before .before .jtj-sizes .ensures) (accepted .enum-told .given .1)
 
 damp-requires : tie.Need-damp-requires
 damp-requires c κs =
     let summed = c .before .before .before in
-    let told = summed .before .before in
-    let accepted = told .before in
+    let accepted = summed .before .before in
     let fits = jtj-fits (accepted .before .before .jtj-sizes .ensures) (accepted .enum-told .given .1) in
-    summed .jtj-sums .kept .1 .1 .1 .0 ∙ rw (told .few .ensures) (fits .1)
+    summed .jtj-sums .kept .1 .1 .1 .0 ∙ fits .1
 
 same-length : tie.Need-same-length
 same-length c = search needs
@@ -43,16 +37,15 @@ returns-2 : tie.Need-returns-2
 returns-2 c =
     let done = c .before .before in
     let summed = done .before .before .before .before in
-    let told = summed .before .before in
-    let accepted = told .before in
+    let accepted = summed .before .before in
     let sizes = accepted .before .before .jtj-sizes in
     let accept = accepted .enum-told .given .1 in
     record {
       answer = sym accept ∙ sizes .ensures;
-      matrix = rw (done .damp .ensures, summed .jtj-sums .ensures, told .few .ensures) (damped-table _ _ _);
+      matrix = rw (done .damp .ensures, summed .jtj-sums .ensures) (damped-table _ _ _);
     }
 
 pub jtj-spec : {M : Type 1} → statement M
 jtj-spec =
     tie.close
-    (tie.spec jtj-sizes-requires enum-told enum-told-2 returns few-requires jtj-sums-requires damp-requires same-length returns-2)
+    (tie.spec jtj-sizes-requires enum-told enum-told-2 returns jtj-sums-requires damp-requires same-length returns-2)

@@ -14,15 +14,15 @@ use Rattle.refit.proofs.inner.keep.Statement.{statement}
 use Rattle.refit.proofs.inner.keep.Tie as tie
 
 -- by the normal equations: how large the head is
-module _ (c : tie.After-few) where
+module _ (c : tie.After-enum-told) where
   abbrev start : tie.Start
-  start = c .before .before .before .before .before .before
+  start = c .before .before .before .before .before
 
   small : start .args .task .cols * start .args .task .cols ≤ 64 * 64
   small = let few = start .pre .0 .limited .few-cols in mul-le-mul few few
 
   fits : kept-size (start .args .task .cols) ≤ length (now (start .args .ws))
-  fits = sums-fit (start .args .task) (c .before .enum-told .given .1) (start .pre .1)
+  fits = sums-fit (start .args .task) (c .enum-told .given .1) (start .pre .1)
 
   long : length (take (kept-size (start .args .task .cols) - 0) (now (start .args .ws))) ≡ kept-size (start .args .task .cols)
   long = length-head (kept-size (start .args .task .cols)) (now (start .args .ws)) fits
@@ -30,14 +30,11 @@ module _ (c : tie.After-few) where
 enum-told : tie.Need-enum-told
 enum-told c = search needs
 
-few-requires : tie.Need-few-requires
-few-requires c κs = search needs
-
 mul-h : tie.Need-mul-h
-mul-h c = rw (c .few .ensures) (omega (arith, small c))
+mul-h c = omega (arith, small c)
 
 add-h : tie.Need-add-h
-add-h c = rw (c .few .ensures) (omega (arith, small c, start c .pre .0 .limited .few-cols))
+add-h c = omega (arith, small c, start c .pre .0 .limited .few-cols)
 
 sub-keep-sums : tie.Need-sub-keep-sums
 sub-keep-sums c = search needs
@@ -46,16 +43,13 @@ part-keep-sums-start : tie.Need-part-keep-sums-start
 part-keep-sums-start c = search needs
 
 part-keep-sums-end : tie.Need-part-keep-sums-end
-part-keep-sums-end c = rw (c .few .ensures) (fits c)
+part-keep-sums-end c = fits c
 
 keep-sums-requires : tie.Need-keep-sums-requires
 keep-sums-requires c κs =
     let told = c .before in
-    let sized = start told .pre .0 in (
-      rw (told .few .ensures) (record { few-columns = sized .limited .few-cols; few-rows = sized .limited .few-rows; cells = sized .theta-long }),
-      sized .target-long,
-      rw (told .few .ensures) (long told),
-    )
+    let sized = start told .pre .0 in
+    (record { few-columns = sized .limited .few-cols; few-rows = sized .limited .few-rows; cells = sized .theta-long }, sized .target-long, long told)
 
 enum-told-2 : tie.Need-enum-told-2
 enum-told-2 c = search needs
@@ -68,8 +62,8 @@ returns c =
     let sums = c .before .before .keep-sums in
     let told = c .before .before .before .before in
     let a = start told .args in
-    kept-now (a .task) (now (a .theta)) (now (a .target)) (told .before .enum-told .given .1) (sums .last .1 .1 .1 .1 .0) _
-    (rw (told .few .ensures) at (sums .kept .1 .1 .1 .1 .0) ∙ long told) (rw (told .few .ensures) at (sums .ensures))
+    kept-now (a .task) (now (a .theta)) (now (a .target)) (told .enum-told .given .1) (sums .last .1 .1 .1 .1 .0) _
+    (sums .kept .1 .1 .1 .1 .0 ∙ long told) (sums .ensures)
 
 returns-2 : tie.Need-returns-2
 returns-2 c =
@@ -79,4 +73,4 @@ returns-2 c =
 pub keep-spec : {M : Type 1} → statement M
 keep-spec =
     tie.close
-    (tie.spec enum-told few-requires mul-h add-h sub-keep-sums part-keep-sums-start part-keep-sums-end keep-sums-requires enum-told-2 same-length returns returns-2)
+    (tie.spec enum-told mul-h add-h sub-keep-sums part-keep-sums-start part-keep-sums-end keep-sums-requires enum-told-2 same-length returns returns-2)

@@ -9,13 +9,13 @@ use Rattle.sums.proofs.walk.add_row.Tie as tie
 
 abbrev Inv-loop : tie.InvT-loop
 Inv-loop theta n-cols i x sums₀ q₀ sums q =
-    (q₀ ≤ q) × (q ≤ n-cols) × Wrote (λ q. q) q₀ q (λ q. plus (at sums₀ q) (times x (cell n-cols theta i q))) sums₀ sums
+    (q ≤ n-cols) × Wrote (λ q. q) 0 q (λ q. plus (at sums₀ q) (times x (cell n-cols theta i q))) sums₀ sums
 
 abbrev μ-loop : tie.MeasureT-loop
 μ-loop theta n-cols i x sums₀ q₀ sums q = n-cols - q
 
 loop-holds : tie.Need-loop-holds Inv-loop μ-loop
-loop-holds c = (omega arith, omega arith, wrote-none _ _ _ _)
+loop-holds c = (omega arith, wrote-none _ _ _ _)
 
 mul-sums : tie.Need-mul-sums Inv-loop μ-loop
 mul-sums c = omega arith
@@ -45,17 +45,16 @@ loop-again c =
     let turn = at-loop .loop in
     let a = start .args in (
       omega arith,
-      omega arith,
       rw (c .at-term .ensures)
           (wrote-turn (λ q. q) (λ q s. plus s (times (a .x) (cell (a .n-cols) (now (a .theta)) (a .i) q)))
-          (a .lo .0) (turn .q) (now (a .sums)) (turn .sums) (turn .inv .0) (omega arith) (λ q h h' e. omega arith) (turn .inv .2)),
+          0 (turn .q) (now (a .sums)) (turn .sums) (omega arith) (omega arith) (λ q h h' e. omega arith) (turn .inv .1)),
     )
 
 same-length : tie.Need-same-length Inv-loop μ-loop
-same-length c = c .before .loop .inv .2 .long
+same-length c = c .before .loop .inv .1 .long
 
 returns : tie.Need-returns Inv-loop μ-loop
-returns c = let end = c .before .loop in wrote-end _ _ (end .q) _ _ _ _ (end .inv .2) (omega arith) (omega arith)
+returns c = let end = c .before .loop in wrote-end _ 0 (end .q) _ _ _ _ (end .inv .1) (omega arith) (omega arith)
 
 pub add-row-spec : {M : Type 1} → statement M
 add-row-spec =

@@ -13,13 +13,13 @@ use Rattle.sums.proofs.walk.target_sums.Tie as tie
 
 abbrev Inv-loop : tie.InvT-loop
 Inv-loop theta target n-rows n-cols sums₀ i₀ sums i =
-    (i ≤ n-rows) × (length sums ≡ length sums₀) × Filled 0 n-cols (moment (cell n-cols theta) (at target) i) sums
+    (i ≤ n-rows) × (length sums ≡ length sums₀) × Filled n-cols (moment (cell n-cols theta) (at target) i) sums
 
 abbrev μ-loop : tie.MeasureT-loop
 μ-loop theta target n-rows n-cols sums₀ i₀ sums i = n-rows - i
 
 loop-holds : tie.Need-loop-holds Inv-loop μ-loop
-loop-holds c = (omega arith, refl, targets-none _ _ _ _ _ (c .before .before .before .pre .3))
+loop-holds c = (omega arith, refl, targets-none _ _ _ _ (c .before .before .before .pre .3))
 
 mul-add-row : tie.Need-mul-add-row Inv-loop μ-loop
 mul-add-row c = omega arith
@@ -31,7 +31,7 @@ add-row-requires : tie.Need-add-row-requires Inv-loop μ-loop
 add-row-requires c κs =
     let head = c .before .before .before in
     let start = head .before .before .before .before in
-    (rw (start .pre .0 .cells) (row-fits _ _ _ (c .before .before .loop-test .taken)), omega arith, omega (arith, start .pre .2, head .loop .inv .1))
+    (rw (start .pre .0 .cells) (row-fits _ _ _ (c .before .before .loop-test .taken)), omega (arith, start .pre .2, head .loop .inv .1))
 
 add-i : tie.Need-add-i Inv-loop μ-loop
 add-i c = omega (arith, c .before .before .before .before .before .loop-test .taken)
@@ -47,8 +47,8 @@ loop-again c =
     let row = at-add-row .add-row in
     let turn = at-loop .loop in (
       omega (arith, at-loop-test .loop-test .taken),
-      row .kept .1 .1 .1 .1 .1 .0 ∙ turn .inv .1,
-      targets-more _ _ _ _ _ _ _ (row .ensures) _ refl (turn .inv .2),
+      row .ensures .long ∙ turn .inv .1,
+      targets-more _ _ _ _ _ _ _ (row .ensures) refl (turn .inv .2),
     )
 
 same-length : tie.Need-same-length Inv-loop μ-loop

@@ -1,0 +1,3 @@
+-- What each step of adding a page of rows to the pair sums leaves. Assumes nothing.
+pub mod Grown
+pub mod Tiles

@@ -1,0 +1,66 @@
+-- A page holds rows of theta; the sums before the first row, after one page more, and in the whole square. Assumes nothing.
+use mathlib.Core.Path.{_≡_, sym, ap, ap₂, _∙_}
+use mathlib.Core.Logic.{dite}
+use mathlib.Core.List.{List}
+use Prim.Native.Nat.{ℕ, _+_, _*_, _≤_, _<_, min, max}
+use native.Mathlib.Omega.{arith}
+use native.Mathlib.Decide.{decLt}
+use lib.Arith.{digits-lt}
+use lib.ListN.{length, length-replicate, getD-replicate}
+use lib.Ieee.{Float, nan}
+use Rattle.steps.specs.Num.{times, +zero, Entry, at, cell}
+use Rattle.steps.specs.Sums.{sum, sum-none, sum-cong, sum-on}
+use Rattle.steps.specs.Space.{cleared, cleared-all}
+use Rattle.steps.specs.Table.{table, is-table}
+use Rattle.steps.specs.Rows.{Rows}
+use Rattle.steps.specs.Wrote.{Wrote}
+use Rattle.pairs.specs.Grown.{grown, Grew}
+use Rattle.sums.specs.Products.{gram}
+use Rattle.sums.specs.ProductLaws.{gram-both}
+use Rattle.sums.specs.Pages.{Holds, UpperSums, upper}
+
+-- the numbers of theta from row i on, as they stand, are those rows
+pub holds-rows : (theta : List Float) (n i h m : ℕ) (page page' : List Float) → h * n ≤ m → Wrote (λ k. k) 0 m (λ k. at theta (i * n + k)) page page' → Holds (cell n theta) n i h page'
+holds-rows theta n i h m page page' all w =
+    record {
+      each = λ k c hk hc.
+          let e : i * n + (k * n + c) ≡ (i + k) * n + c = omega arith in
+          w .done (k * n + c) (omega arith) (omega (arith, digits-lt hk hc)) ∙ ap (at theta) e;
+    }
+
+-- no row yet: every number is +0.0
+pub sums-none : (e : Entry) (n : ℕ) (s : List Float) → length s ≡ n * n → UpperSums e n 0 (cleared (n * n) s)
+unfolding gram
+sums-none e n s len =
+    rw (cleared-all (n * n) s len)
+    (record {
+      square = length-replicate (n * n) +zero;
+      each = λ p q l k. let hp : p < n = omega arith in getD-replicate (n * n) (p * n + q) +zero nan (digits-lt hp k) ∙ sym (sum-none _ _ _);
+    })
+
+-- one page more
+pub sums-more : (e : Entry) (n i h : ℕ) (page s t : List Float) → Holds e n i h page → UpperSums e n i s → Grew page n h 0 n 0 n s t → UpperSums e n (i + h) t
+unfolding gram grown
+sums-more e n i h page s t o m g =
+    record {
+      square = g .long ∙ m .square;
+      each = λ p q l k.
+          let hp : p < n = omega arith in
+          g .done p q l k (record { top = omega arith; bottom = hp; left = omega arith; right = k })
+          ∙ sum-cong _ 0 h _ _ (λ j a a'. ap₂ times (o .each j p a' hp) (o .each j q a' k))
+          ∙ ap (λ (x : Float). sum x 0 h (λ j. times (e (i + j) p) (e (i + j) q))) (m .each p q l k)
+          ∙ sym (sum-on _ i h (λ j. times (e j p) (e j q)));
+    }
+
+-- every row mirrored
+pub mirror-end : (e : Entry) (n rows : ℕ) (s t : List Float) → UpperSums e n rows s → Rows n n (upper n s) s n t → t ≡ table n n (gram e rows)
+unfolding upper
+mirror-end e n rows s t m w =
+    is-table n n (gram e rows) t nan (w .long ∙ m .square) (λ r c hr hc. w .new r c hr hc ∙ m .each (min r c) (max r c) (omega arith) (omega arith) ∙ both r c)
+  where
+    -- one sum serves both entries
+    both : (r c : ℕ) → gram e rows (min r c) (max r c) ≡ gram e rows r c
+    both r c =
+        dite (decLt r c)
+        (λ (l : r < c). let a : min r c ≡ r = omega arith in let a' : max r c ≡ c = omega arith in rw (a, a'))
+        (λ (l : r < c → ⊥). let a : min r c ≡ c = omega arith in let a' : max r c ≡ r = omega arith in rw (a, a') (gram-both e rows c r))
