@@ -62,6 +62,10 @@ fn run_calls(seed: u64, count: u64, names: &[&str]) -> ExitCode {
         if !sizes.is_empty() {
             println!("{times:>10}  of them accepted at {sizes:?}, the largest");
         }
+        if let [rows, cols] = outcome.counts.as_slice() {
+            let (rows, cols) = (rows.len(), cols.len());
+            println!("            at {rows} row counts and {cols} column counts");
+        }
         for text in &outcome.told {
             println!("  differs: {text}");
         }

@@ -4,6 +4,7 @@ use crate::call::{Call, Function};
 use crate::compare::difference;
 use oracle::histogram::Histogram;
 use oracle::rng::Rng;
+use std::collections::BTreeSet;
 
 /// What a run of calls gave.
 #[derive(Default)]
@@ -13,6 +14,8 @@ pub struct Outcome {
     pub calls: u64,
     /// The largest sizes accepted, and how many calls had them.
     pub largest: (Vec<usize>, u64),
+    /// The counts of rows and of columns accepted, or of one of them.
+    pub counts: Vec<BTreeSet<usize>>,
     /// The first few differences.
     pub told: Vec<String>,
     pub differ: u64,
@@ -21,6 +24,10 @@ pub struct Outcome {
 impl Outcome {
     fn take_sizes(&mut self, sizes: &[usize]) {
         let sizes = &sizes[..sizes.len().min(2)];
+        self.counts.resize(sizes.len(), BTreeSet::new());
+        for (counts, &size) in self.counts.iter_mut().zip(sizes) {
+            counts.insert(size);
+        }
         let area = |sizes: &[usize]| sizes.iter().product::<usize>();
         if self.largest.0 == sizes {
             self.largest.1 += 1;

@@ -2,6 +2,7 @@
 
 use crate::slice::Slice;
 use oracle::generate::floats;
+use oracle::refusal::MAX_ROWS;
 use oracle::rng::Rng;
 
 /// A size up to a limit: mostly small, at times zero, up to the limit, or the limit itself.
@@ -23,6 +24,17 @@ pub fn any(rng: &mut Rng, limit: usize) -> usize {
         1 if cheap => limit,
         0 | 2 => huge(rng),
         _ => good(rng, limit),
+    }
+}
+
+/// Rows at which a walk by pages of 32 rows may go wrong: few, beside a multiple of 32, and up to the most.
+pub fn rows_by_pages(rng: &mut Rng) -> usize {
+    let beside = |rng: &mut Rng, pages| 32 * rng.between(1, pages) + rng.below(3) - 1;
+    match rng.below(100) {
+        0 => MAX_ROWS - rng.below(4),
+        1..4 => beside(rng, MAX_ROWS / 32).min(MAX_ROWS),
+        4..50 => beside(rng, 8),
+        _ => rng.below(10),
     }
 }
 
@@ -137,5 +149,21 @@ impl Plan {
     /// A workspace's length; it is short in calls that are right otherwise, too.
     pub fn workspace(self, rng: &mut Rng, needed: Option<usize>) -> usize {
         workspace(rng, right(needed))
+    }
+}
+
+#[cfg(test)]
+mod tests {
+    use super::*;
+    use std::collections::BTreeSet;
+
+    #[test]
+    fn the_rows_of_a_walk_by_pages_are_all_met() {
+        let beside = (1..=128).flat_map(|pages| [32 * pages - 1, 32 * pages, 32 * pages + 1]);
+        let wanted = (0..10).chain(beside).chain(4093..4097);
+        let wanted: BTreeSet<usize> = wanted.filter(|&rows| rows <= MAX_ROWS).collect();
+        let mut rng = Rng::new(1);
+        let met: BTreeSet<usize> = (0..100_000).map(|_| rows_by_pages(&mut rng)).collect();
+        assert_eq!(met, wanted);
     }
 }

@@ -98,6 +98,14 @@ fn well(rng: &mut Rng, size: Size) -> Problem {
     p
 }
 
+/// The same at given sizes, for the normal equations.
+pub fn sparse(rng: &mut Rng, rows: usize, cols: usize) -> Problem {
+    let mut p = Problem::zeros(Solver::Normal, rows, cols, setups::plain(rng));
+    p.theta.fill_with(|| rng.signed());
+    true_target(rng, &mut p, 0.1);
+    p
+}
+
 /// Powers of one reading side by side: the columns lean on each other, so that refits follow refits.
 fn graded(rng: &mut Rng, size: Size) -> Problem {
     let mut p = drawn(rng, size, Rng::signed);

@@ -9,29 +9,58 @@ pub fn jtj(jac: &[f64], rows: usize, n: usize, lambda: f64, out: &mut [f64]) {
 
 /// The undamped sums; lambda is looked at by a fault only.
 pub fn pair_sums(jac: &[f64], rows: usize, n: usize, lambda: f64, out: &mut [f64]) {
+    let rows = fault::or(rows, Fault::JtjLastPageSkipped, rows - rows % PAGE);
     for p in 0..n {
         for q in p..n {
-            let mut sum = fault::or(0.0, Fault::JtjFromMinusZero, -0.0);
+            let mut start = fault::or(0.0, Fault::JtjFromMinusZero, -0.0);
             if fault::is(Fault::JunkReadFromOutput) {
-                sum = out[p * n + q] * 0.0;
+                start = out[p * n + q] * 0.0;
             }
             if p == q && fault::is(Fault::JtjLambdaFirst) {
-                sum = lambda;
+                start = lambda;
             }
-            for row in 0..rows {
-                let (x, y) = (jac[row * n + p], jac[row * n + q]);
-                sum = if fault::is(Fault::JtjFused) {
-                    x.mul_add(y, sum)
-                } else {
-                    sum + x * y
-                };
-            }
+            let pair = |row: usize| (jac[row * n + p], jac[row * n + q]);
+            let rows = if left_out(p, q, n) { 0 } else { rows };
+            let sum = pair_sum(start, rows, pair);
             out[p * n + q] = sum;
             if !(p != q && fault::is(Fault::JtjNotMirrored)) {
                 out[q * n + p] = sum;
             }
         }
     }
+}
+
+/// The products of two columns, added to a start.
+fn pair_sum(start: f64, rows: usize, pair: impl Fn(usize) -> (f64, f64)) -> f64 {
+    let add = |sum: f64, row: usize| match pair(row) {
+        (x, y) if fault::is(Fault::JtjFused) => x.mul_add(y, sum),
+        (x, y) => sum + x * y,
+    };
+    if fault::is(Fault::JtjPagesSummedApart) {
+        let pages = (0..rows).step_by(PAGE);
+        let sums = pages.map(|first| (first..rows.min(first + PAGE)).fold(0.0, add));
+        return sums.fold(start, |sum, page| sum + page);
+    }
+    (0..rows).map(|row| by_pages(row, rows)).fold(start, add)
+}
+
+/// The rows that a walk by pages takes at once.
+const PAGE: usize = 32;
+
+/// The row itself, but under a fault that takes a page's rows from its last.
+fn by_pages(row: usize, rows: usize) -> usize {
+    let first = row - row % PAGE;
+    let last = rows.min(first + PAGE) - 1;
+    fault::or(row, Fault::JtjRowsFromLast, first + last - row)
+}
+
+/// Whether the sum of two columns is left out: the first n mod 4 columns stand alone, then there are tiles.
+fn left_out(p: usize, q: usize, n: usize) -> bool {
+    let alone = n % 4;
+    let on_diagonal = p >= alone && (p - alone) / 4 == (q - alone) / 4;
+    fault::is(Fault::JtjRemainderLeftOut) && q < alone
+        || fault::is(Fault::JtjDiagonalLeftOut) && on_diagonal
+        || fault::is(Fault::JtjWrongHalfMirrored) && p != q
 }
 
 /// Lambda, once to each diagonal number.

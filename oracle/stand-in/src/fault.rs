@@ -67,6 +67,12 @@ faults! {
     JtjNotMirrored
     JtrFromMinusZero
     JtjFused
+    JtjLastPageSkipped
+    JtjPagesSummedApart
+    JtjRowsFromLast
+    JtjRemainderLeftOut
+    JtjDiagonalLeftOut
+    JtjWrongHalfMirrored
     // Cholesky.
     CholeskyNanRefused
     CholeskyLessOnly

@@ -3,7 +3,7 @@
 use super::number;
 use crate::call::{Call, Function, number_label};
 use crate::matrices;
-use crate::sizes::{Plan, given, junk};
+use crate::sizes::{Plan, given, junk, rows_by_pages};
 use dapmotar::raw;
 use oracle::generate::setups;
 use oracle::model;
@@ -12,7 +12,11 @@ use oracle::rng::Rng;
 
 pub const JTJ: Function = Function {
     name: "jtj",
-    make: make_jtj,
+    make: |rng| {
+        let plan = Plan::new(rng);
+        let sizes = [plan.size(rng, MAX_ROWS), plan.size(rng, MAX_COLS)];
+        jtj_of(rng, plan, sizes)
+    },
     library: library_jtj,
     model: |call| {
         let (jac, out) = (call.reads[0].numbers(), call.writes[0].numbers_mut());
@@ -25,6 +29,16 @@ pub const JTJ: Function = Function {
         ))
     },
     label: number_label,
+};
+
+/// Calls of `jtj` at every column count and at the rows where a walk by pages may go wrong.
+pub const JTJ_PAGES: Function = Function {
+    name: "jtj_pages",
+    make: |rng| {
+        let sizes = [rows_by_pages(rng), rng.between(0, MAX_COLS)];
+        jtj_of(rng, Plan::RIGHT, sizes)
+    },
+    ..JTJ
 };
 
 pub const JTR: Function = Function {
@@ -44,9 +58,7 @@ pub const JTR: Function = Function {
     label: number_label,
 };
 
-fn make_jtj(rng: &mut Rng) -> Call {
-    let plan = Plan::new(rng);
-    let (rows, cols) = (plan.size(rng, MAX_ROWS), plan.size(rng, MAX_COLS));
+fn jtj_of(rng: &mut Rng, plan: Plan, [rows, cols]: [usize; 2]) -> Call {
     let jac_len = plan.length(rng, rows.checked_mul(cols));
     let out_len = plan.length(rng, cols.checked_mul(cols));
     let jac = matrices::drawn(rng, jac_len);

@@ -2,7 +2,7 @@
 
 use crate::call::{Call, Function};
 use crate::matrices;
-use crate::sizes::{Plan, given, junk};
+use crate::sizes::{Plan, given, junk, rows_by_pages};
 use dapmotar::raw;
 use oracle::fit::Stop;
 use oracle::generate::kinds::{self, Size};
@@ -33,6 +33,17 @@ pub const STRLSQ_REFITS: Function = Function {
     name: "strlsq_refits",
     make: |rng| {
         let problem = several_refits(rng);
+        of(rng, Plan::RIGHT, Solver::Normal, problem)
+    },
+    ..STRLSQ
+};
+
+/// Calls of `strlsq` at every column count and at the rows where a walk by pages may go wrong.
+pub const STRLSQ_PAGES: Function = Function {
+    name: "strlsq_pages",
+    make: |rng| {
+        let (rows, cols) = (rows_by_pages(rng), rng.between(0, MAX_COLS));
+        let problem = kinds::sparse(rng, rows, cols);
         of(rng, Plan::RIGHT, Solver::Normal, problem)
     },
     ..STRLSQ

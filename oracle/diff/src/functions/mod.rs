@@ -9,11 +9,12 @@ mod square;
 use crate::call::Function;
 pub use fits::SIZE as FIT_SIZE;
 
-/// Every export, and `strlsq` once more with many refits.
-pub const ALL: [Function; 14] = [
+/// Every export; `jtj` and `strlsq` once more at the sizes of a walk by pages, and `strlsq` with many refits.
+pub const ALL: [Function; 16] = [
     scalars::SQRT,
     scalars::ABS,
     builders::JTJ,
+    builders::JTJ_PAGES,
     builders::JTR,
     square::CHOLESKY,
     square::LU,
@@ -23,6 +24,7 @@ pub const ALL: [Function; 14] = [
     fits::STRLSQ,
     fits::STRLSQ_QR,
     fits::STRLSQ_REFITS,
+    fits::STRLSQ_PAGES,
     scalars::STRLSQ_WORKSPACE,
     scalars::STRLSQ_QR_WORKSPACE,
 ];
