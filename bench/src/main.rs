@@ -14,8 +14,10 @@ use std::process::ExitCode;
 #[cfg(feature = "stand-in")]
 use stand_in as _;
 
-/// Rows and columns that are measured.
+/// Rows and columns that are measured, with fits of one refit and of several.
 const SHAPES: [(usize, usize); 3] = [(4096, 64), (1000, 16), (128, 16)];
+/// Small ones, at which a call's own start shows.
+const SMALL: [(usize, usize); 4] = [(64, 8), (64, 4), (16, 8), (16, 4)];
 
 fn main() -> ExitCode {
     oracle::published::check_build("bench");
@@ -28,11 +30,7 @@ fn main() -> ExitCode {
     }
     let mut rows = Vec::new();
     for (n_rows, n_cols) in SHAPES {
-        let data = Data::new(n_rows, n_cols);
-        for call in calls::ALL {
-            eprintln!("{} at {n_rows}x{n_cols}", call.name);
-            rows.push(table::Row::new(call, &data, measure::measure(call, &data)));
-        }
+        rows.extend(each_call(n_rows, n_cols));
         rows.push(falling("strlsq, 1 refit", n_rows, n_cols, false, 1));
         rows.push(falling(
             "strlsq, 8 refits",
@@ -42,19 +40,32 @@ fn main() -> ExitCode {
             FALLING as u64,
         ));
     }
-    let text = table::text(&rows);
+    let small: Vec<table::Row> = SMALL
+        .into_iter()
+        .flat_map(|(n_rows, n_cols)| each_call(n_rows, n_cols))
+        .collect();
+    let text = table::text(&rows, &small);
     print!("{text}");
     if write && let Err(e) = table::write(&text) {
         eprintln!("bench: {e}");
         return ExitCode::from(2);
     }
-    let within =
-        rows.iter().all(table::Row::within) && table::more_refits(&rows) <= table::MORE_REFITS;
-    if within {
+    let within = rows.iter().chain(&small).all(table::Row::within);
+    if within && table::more_refits(&rows) <= table::MORE_REFITS {
         ExitCode::SUCCESS
     } else {
         ExitCode::FAILURE
     }
+}
+
+/// Every call at these sizes.
+fn each_call(rows: usize, cols: usize) -> Vec<table::Row> {
+    let data = Data::new(rows, cols);
+    let measured = calls::ALL.into_iter().map(|call| {
+        eprintln!("{} at {rows}x{cols}", call.name);
+        table::Row::new(call, &data, measure::measure(call, &data))
+    });
+    measured.collect()
 }
 
 /// `strlsq` where eight terms fall, over so many refits.

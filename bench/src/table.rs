@@ -32,12 +32,13 @@ impl Row {
 
     /// The most that the ratio should be.
     fn limit(&self) -> f64 {
-        match (self.name, self.rows, self.cols) {
-            ("solve_normal_equations", _, 16) => 1.3,
-            ("strlsq, 1 refit", 4096, 64) => 0.19,
-            (name, 128, 16) if name.starts_with("strlsq,") || name == "strlsq" => 0.65,
-            ("solve_least_squares" | "strlsq_qr", 4096, 64) => 0.35,
-            ("solve_least_squares" | "strlsq_qr", 128, 16) => 0.85,
+        let size = (self.rows, self.cols);
+        match self.name {
+            "jtj" => limit_at(size, [0.07, 0.3, 0.5]),
+            "solve_normal_equations" if self.cols <= 8 => 1.8,
+            "solve_normal_equations" if self.cols <= 16 => 1.3,
+            "solve_least_squares" | "strlsq_qr" => limit_at(size, [0.35, 1.0, 0.85]),
+            name if name.starts_with("strlsq") => limit_at(size, [0.1, 0.4, 0.5]),
             _ => 1.0,
         }
     }
@@ -64,6 +65,16 @@ impl Row {
     }
 }
 
+/// The limits of a call at the three larger sizes; 1.0 at the small ones.
+fn limit_at(size: (usize, usize), [large, long, short]: [f64; 3]) -> f64 {
+    match size {
+        (4096, 64) => large,
+        (1000, 16) => long,
+        (128, 16) => short,
+        _ => 1.0,
+    }
+}
+
 fn time(seconds: f64) -> String {
     match seconds {
         s if s >= 1e-3 => format!("{:.2} ms", s * 1e3),
@@ -71,16 +82,22 @@ fn time(seconds: f64) -> String {
     }
 }
 
-/// The table under a line on the machine and the date.
-pub fn text(rows: &[Row]) -> String {
+/// The tables under a line on the machine and the date.
+pub fn text(rows: &[Row], small: &[Row]) -> String {
+    format!(
+        "{}\n\n{}\n`strlsq` at 4096x64 takes {:.2} times as long with eight refits as with one; at most {MORE_REFITS:.2} is allowed.\n\nSmall sizes:\n\n{}",
+        machine::line(),
+        table(rows),
+        more_refits(rows),
+        table(small)
+    )
+}
+
+fn table(rows: &[Row]) -> String {
     let head =
         "| call | size | port | Rust | port / Rust | most allowed |\n|---|---|---|---|---|---|\n";
     let body: String = rows.iter().map(Row::text).collect();
-    format!(
-        "{}\n\n{head}{body}\n`strlsq` at 4096x64 takes {:.2} times as long with eight refits as with one; at most {MORE_REFITS:.2} is allowed.\n",
-        machine::line(),
-        more_refits(rows)
-    )
+    format!("{head}{body}")
 }
 
 /// The most that `strlsq` at 4096x64 may take with eight refits, as a multiple of its time with one.

@@ -1,12 +1,10 @@
-// The kept sums, and a solve from them. Each function may require what its caller tested.
+// A solve from the kept sums. Each function may require what its caller tested.
 ghost use mathlib.Core.Path.{_≡_};
 ghost use Prim.Native.Nat.{_+_, _*_, _^_, _≤_, _<_};
 ghost use lib.Count.{ones};
 ghost use lib.ListN.{length};
-ghost use Rattle.steps.specs.Num.{at, cell};
-ghost use Rattle.sums.specs.Products.{gram, moment, ridge, jtj-matrix, jtr-column};
-ghost use Rattle.sums.specs.Inner.{Matrix};
-ghost use Rattle.sums.specs.Kept.{kept-size, kept-sums, pair, product, block, side};
+ghost use Rattle.sums.specs.Products.{ridge, jtj-matrix, jtr-column};
+ghost use Rattle.sums.specs.Kept.{kept-size, pair, product, block, side};
 ghost use Rattle.block.specs.Listed.{Room, listed-pair};
 ghost use Rattle.block.specs.Solved.{FromKept};
 use crate::take::take_block;
@@ -15,21 +13,7 @@ use cholesky::inner::cholesky;
 use lu::inner::lu;
 use places::inner::list_terms;
 use refusal::Solved;
-use sums::inner::jtj_sums;
-use sums::inner::jtr_sums;
 use support::Support;
-
-// The first pass over the rows: the pair sums, and the target products behind them.
-pub fn keep_sums(theta: &[f64], target: &[f64], n_rows: usize, n_cols: usize, sums: &mut [f64])
-    requires { ⌜ Matrix «n_rows» «n_cols» (length (now theta)) × (length (now target) ≡ «n_rows») × (length (now sums) ≡ kept-size «n_cols») ⌝ }
-    ensures { λ _. ⌜ now (sums .exit)
-        ≡ kept-sums «n_cols» (gram (cell «n_cols» (now (theta .entry))) «n_rows») (moment (cell «n_cols» (now (theta .entry))) (at (now (target .entry))) «n_rows») ⌝ }
-{
-    let s = n_cols * n_cols;
-    let h = s + n_cols;
-    jtj_sums(theta, n_rows, n_cols, &mut sums[0..s]);
-    jtr_sums(theta, target, n_rows, n_cols, &mut sums[s..h]);
-}
 
 // The normal equations of the listed terms' block and b: Cholesky on the block; on its refusal LU on the block taken anew and the untouched b.
 fn solve_listed(

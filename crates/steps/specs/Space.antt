@@ -5,7 +5,7 @@ use Prim.Native.Nat.{ℕ, zero, suc, _+_, _-_, _≤_, _<_}
 use native.Mathlib.Nat.{not-suc-le-zero, le-of-suc-le-suc, zero-add, suc-add, add-zero}
 use native.Mathlib.Numerals.{add-one}
 use native.Mathlib.Omega.{arith}
-use lib.ListN.{length, set, take, drop, replicate, length-append, length-take, length-drop, getD, List·getD-append}
+use lib.ListN.{length, set, take, drop, replicate, length-append, length-take, length-drop, length-replicate, getD, getD-replicate, List·getD-append}
 use lib.Seq.{take-at, drop-at, drop-drop, drop-append-add, getD-append-add, getD-take, getD-drop, drop-length}
 use lib.Ieee.{Float, nan}
 use Rattle.steps.specs.Num.{+zero, at}
@@ -104,6 +104,11 @@ get-after a e t s k h h' len hk =
 -- lists with the same first h numbers have the same number at each of those places
 pub same-head : (h i : ℕ) (s t : List Float) → i < h → take h s ≡ take h t → at s i ≡ at t i
 same-head h i s t l e = sym (getD-take h s i nan l) ∙ ap (λ (x : List Float). at x i) e ∙ getD-take h t i nan l
+
+-- a cleared number
+pub at-cleared : (k i : ℕ) (s : List Float) → i < k → at (cleared k s) i ≡ +zero
+unfolding cleared
+at-cleared k i s h = List·getD-append (replicate k +zero) (drop k s) nan i (simp length-replicate h) ∙ getD-replicate k i +zero nan h
 
 -- clearing the whole
 pub cleared-all : (k : ℕ) (s : List Float) → length s ≡ k → cleared k s ≡ replicate k +zero

@@ -1,4 +1,8 @@
 // The sums of the normal equations over all columns of a matrix, undamped, and the damping. Each function may require what its caller tested.
+pub mod mirror;
+pub mod pages;
+pub mod walk;
+
 ghost use mathlib.Core.Path.{_≡_};
 ghost use Prim.Native.Nat.{_*_};
 ghost use lib.ListN.{length};
@@ -6,9 +10,9 @@ ghost use Rattle.steps.specs.Num.{at, cell as cell-of};
 ghost use Rattle.steps.specs.Table.{table};
 ghost use Rattle.sums.specs.Products.{gram, moment, ridge, jtj-matrix, jtr-column};
 ghost use Rattle.sums.specs.Inner.{Matrix};
-use crate::mirror::mirror;
-use crate::pages::add_rows;
-use crate::walk::target_sums;
+use crate::inner::mirror::mirror;
+use crate::inner::pages::add_rows;
+use crate::inner::walk::take_targets;
 use slices::inner::cell;
 use slices::inner::clear;
 use slices::inner::put;
@@ -40,5 +44,5 @@ pub fn jtr_sums(theta: &[f64], target: &[f64], n_rows: usize, n_cols: usize, out
     ensures { λ _. ⌜ now (out .exit) ≡ jtr-column «n_cols» (moment (cell-of «n_cols» (now (theta .entry))) (at (now (target .entry))) «n_rows») ⌝ }
 {
     clear(out, n_cols);
-    target_sums(theta, target, n_rows, n_cols, out);
+    take_targets(theta, n_cols, n_rows, target, 0, out);
 }

@@ -1,5 +1,2 @@
 // The sums of the normal equations, for `builders` and the fits: nothing here is a public call.
 pub mod inner;
-mod mirror;
-mod pages;
-mod walk;

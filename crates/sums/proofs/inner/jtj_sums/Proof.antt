@@ -1,5 +1,9 @@
 -- `jtj_sums` meets its contract: from a cleared output the upper half takes all rows, then it is mirrored.
+use mathlib.Core.Path.{_∙_}
+use Prim.Native.Nat.{_*_}
 use borrow.Author.Needs.{needs}
+use denote.Ref.{now}
+use Rattle.steps.specs.Space.{at-cleared}
 use Rattle.sums.specs.PageLaws.{sums-none, mirror-end}
 use Rattle.sums.proofs.inner.jtj_sums.Statement.{statement}
 use Rattle.sums.proofs.inner.jtj_sums.Tie as tie
@@ -14,7 +18,10 @@ add-rows-requires : tie.Need-add-rows-requires
 add-rows-requires c κs =
     let cleared = c .before .before .before in
     let start = cleared .before .before .before .before in
-    (start .pre .0, rw (cleared .clear .ensures) (sums-none _ _ _ (start .pre .1)))
+    let n = start .args .n-cols in (
+      start .pre .0,
+      sums-none _ n _ (cleared .clear .kept .0 ∙ start .pre .1) (λ k h. rw (cleared .clear .ensures) (at-cleared (n * n) k (now (start .args .out)) h)),
+    )
 
 mirror-requires : tie.Need-mirror-requires
 mirror-requires c κs = search needs

@@ -7,8 +7,8 @@ use lib.ListN.{length}
 use Rattle.steps.specs.Num.{cell}
 use Rattle.sums.specs.Pages.{UpperSums}
 use Rattle.sums.specs.PageLaws.{sums-more}
-use Rattle.sums.proofs.pages.add_pages.Statement.{statement}
-use Rattle.sums.proofs.pages.add_pages.Tie as tie
+use Rattle.sums.proofs.inner.pages.add_pages.Statement.{statement}
+use Rattle.sums.proofs.inner.pages.add_pages.Tie as tie
 
 abbrev Inv-loop : tie.InvT-loop
 Inv-loop theta n-rows n-cols page₀ out₀ left₀ page out left = (left ≤ n-rows) × (length page ≡ length page₀) × UpperSums (cell n-cols theta) n-cols (n-rows - left) out

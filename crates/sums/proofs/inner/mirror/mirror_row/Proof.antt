@@ -9,8 +9,8 @@ use denote.Ref.{now}
 use Rattle.steps.specs.Num.{cell}
 use Rattle.steps.specs.Rows.{rows-apart}
 use Rattle.steps.specs.Wrote.{Wrote, wrote-none, wrote-more, wrote-end}
-use Rattle.sums.proofs.mirror.mirror_row.Statement.{statement}
-use Rattle.sums.proofs.mirror.mirror_row.Tie as tie
+use Rattle.sums.proofs.inner.mirror.mirror_row.Statement.{statement}
+use Rattle.sums.proofs.inner.mirror.mirror_row.Tie as tie
 
 abbrev Inv-loop : tie.InvT-loop
 Inv-loop out₀ n-cols p q₀ out q = (q ≤ p) × Wrote (λ c. p * n-cols + c) 0 q (λ c. cell n-cols out₀ c p) out₀ out

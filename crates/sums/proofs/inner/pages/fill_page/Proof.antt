@@ -6,8 +6,8 @@ use denote.Ref.{now}
 use Rattle.steps.specs.Num.{at}
 use Rattle.steps.specs.Wrote.{Wrote, wrote-none, wrote-more}
 use Rattle.sums.specs.PageLaws.{holds-rows}
-use Rattle.sums.proofs.pages.fill_page.Statement.{statement}
-use Rattle.sums.proofs.pages.fill_page.Tie as tie
+use Rattle.sums.proofs.inner.pages.fill_page.Statement.{statement}
+use Rattle.sums.proofs.inner.pages.fill_page.Tie as tie
 
 abbrev Inv-loop : tie.InvT-loop
 Inv-loop theta n-cols i h page₀ from k₀ k-end page k = (k ≤ k-end) × Wrote (λ k. k) 0 k (λ k. at theta (from + k)) page₀ page

@@ -5,8 +5,8 @@ use native.Mathlib.Omega.{arith}
 use Rattle.steps.specs.Rows.{Rows, rows-none}
 use Rattle.sums.specs.Pages.{upper}
 use Rattle.sums.proofs.Mirrored.{mirror-more}
-use Rattle.sums.proofs.mirror.mirror.Statement.{statement}
-use Rattle.sums.proofs.mirror.mirror.Tie as tie
+use Rattle.sums.proofs.inner.mirror.mirror.Statement.{statement}
+use Rattle.sums.proofs.inner.mirror.mirror.Tie as tie
 
 abbrev Inv-loop : tie.InvT-loop
 Inv-loop out₀ n-cols p₀ out p = (p ≤ n-cols) × Rows n-cols n-cols (upper n-cols out₀) out₀ p out

@@ -4,8 +4,8 @@ use native.Mathlib.Omega.{arith}
 use denote.Ref.{now}
 use Rattle.steps.specs.Num.{plus, times, at, cell}
 use Rattle.steps.specs.Wrote.{Wrote, wrote-none, wrote-turn, wrote-end}
-use Rattle.sums.proofs.walk.add_row.Statement.{statement}
-use Rattle.sums.proofs.walk.add_row.Tie as tie
+use Rattle.sums.proofs.inner.walk.add_row.Statement.{statement}
+use Rattle.sums.proofs.inner.walk.add_row.Tie as tie
 
 abbrev Inv-loop : tie.InvT-loop
 Inv-loop theta n-cols i x sums₀ q₀ sums q =

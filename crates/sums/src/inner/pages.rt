@@ -8,7 +8,7 @@ ghost use Rattle.sums.specs.Pages.{Holds, UpperSums};
 use pairs::inner::add_page;
 
 // The page takes the h rows of theta from row i on: the one place that knows how theta is stored.
-fn fill_page(theta: &[f64], n_cols: usize, i: usize, h: usize, page: &mut [f64])
+pub fn fill_page(theta: &[f64], n_cols: usize, i: usize, h: usize, page: &mut [f64])
     requires { ⌜ (i * «n_cols» + h * «n_cols» ≤ length (now theta)) × (h * «n_cols» ≤ length (now page)) ⌝ }
     ensures { λ _. ⌜ Holds (cell-of «n_cols» (now (theta .entry))) «n_cols» i h (now (page .exit)) ⌝ }
 {
@@ -19,7 +19,7 @@ fn fill_page(theta: &[f64], n_cols: usize, i: usize, h: usize, page: &mut [f64])
 }
 
 // The rows of the next page where this many are left.
-fn page_rows(left: usize) -> usize
+pub fn page_rows(left: usize) -> usize
     requires { ⌜ 0 < left ⌝ }
     ensures { λ h. ⌜ (0 < h) × (h ≤ left) × (h ≤ 32) ⌝ }
 {
