@@ -18,7 +18,7 @@
  * Answers.     0, or the number of the refusal: the first that applies, in the order below. No call traps.
  * Workspaces   are lent by the caller. They may be longer than needed. After an accepted call and after 9 they are
  *              +0.0 over the needed length; numbers past it are untouched.
- * Threads.     A call touches nothing but its arguments.
+ * Threads.     A call touches nothing but its arguments, and up to 20 KB of stack; dapmotar_respond up to 80 KB.
  */
 #ifndef DAPMOTAR_H
 #define DAPMOTAR_H
@@ -77,7 +77,7 @@ double dapmotar_sqrt(double x);
 double dapmotar_abs(double x);
 
 /*
- * out = J^T J + lambda I, for J of n_rows by n_params. out has n_params * n_params numbers.
+ * out = J^T J + lambda I, for J of n_rows by n_params. out has n_params * n_params numbers. J is walked once, by rows.
  * Refusals: 1, 2, 4, 6.
  */
 uint64_t dapmotar_jtj(const double *jac, size_t jac_len, size_t n_rows, size_t n_params, double lambda,
@@ -132,7 +132,7 @@ uint64_t dapmotar_solve_least_squares(const double *a, size_t a_len, const doubl
 /*
  * The fit by normal equations. theta has n_rows * n_cols numbers, a column a term; target has n_rows; coeffs has
  * n_cols. Terms whose coefficient's magnitude is below the threshold are dropped and the others fitted again, for at
- * most max_iter rounds.
+ * most max_iter rounds. theta is walked once, by rows, however many rounds there are.
  * report: the stop; how many refits were tried; the kept word, whose bit j is one exactly if term j's final
  * magnitude is at least the threshold; the term at which a solve refused, a column of theta also after a refit, or
  * DAPMOTAR_NO_TERM. It is written only if the call is accepted.

@@ -36,7 +36,14 @@ holds-all theta n h = record { each = λ k c hk hc. rw zero-add }
 -- no row yet: every number is +0.0
 pub sums-none : (e : Entry) (n : ℕ) (s : List Float) → length s ≡ n * n → ((k : ℕ) → k < n * n → at s k ≡ +zero) → UpperSums e n 0 s
 unfolding gram
-sums-none e n s len zeros = record { square = len; each = λ p q l k. let hp : p < n = omega arith in zeros (p * n + q) (digits-lt hp k) ∙ sym (sum-none _ _ _) }
+sums-none e n s len zeros =
+    record {
+      square = len;
+      each = λ p q l k.
+          let hp : p < n = omega arith in
+          let none : gram e 0 p q ≡ +zero = sum-none _ _ _ in
+          zeros (p * n + q) (digits-lt hp k) ∙ sym none;
+    }
 
 -- one page more
 pub sums-more : (e : Entry) (n i h : ℕ) (page s t : List Float) → Holds e n i h page → UpperSums e n i s → Grew page n h 0 n 0 n s t → UpperSums e n (i + h) t

@@ -45,7 +45,7 @@ fn pair_sum(start: f64, rows: usize, pair: impl Fn(usize) -> (f64, f64)) -> f64 
 }
 
 /// The rows that a walk by pages takes at once.
-const PAGE: usize = 32;
+pub const PAGE: usize = 32;
 
 /// The row itself, but under a fault that takes a page's rows from its last.
 fn by_pages(row: usize, rows: usize) -> usize {

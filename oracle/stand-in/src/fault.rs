@@ -148,6 +148,7 @@ faults! {
     BlockByPlace
     ProductsByPlace
     ProductsOverwritten
+    ProductsByFirstTargets
     OldValuesStay
     TermIsPlace
     TermIsPlaceByQr

@@ -1,6 +1,6 @@
 //! Both fits over one loop.
 
-use crate::builders::{damp, jtr, pair_sums};
+use crate::builders::{PAGE, damp, jtr, pair_sums};
 use crate::fault::{self, Fault};
 use crate::qr::least_squares;
 use crate::root::{abs, sqrt};
@@ -56,7 +56,9 @@ impl Kept {
         let c = fit.cols;
         let (mut sums, mut products) = (vec![0.0; c * c], vec![0.0; c]);
         pair_sums(fit.theta, fit.rows, c, fit.lambda, &mut sums);
-        jtr(fit.theta, fit.target, fit.rows, c, &mut products);
+        let target = |row| fault::or(row, Fault::ProductsByFirstTargets, row % PAGE);
+        let targets: Vec<f64> = (0..fit.rows).map(|row| fit.target[target(row)]).collect();
+        jtr(fit.theta, &targets, fit.rows, c, &mut products);
         if fault::is(Fault::KeptDamped) {
             damp(&mut sums, c, fit.lambda);
         }
