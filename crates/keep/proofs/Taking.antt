@@ -1,10 +1,9 @@
 -- Kept sums: before the first row, in two parts that take a page, after one page more, and when the last has been taken. Assumes nothing.
-use mathlib.Core.Path.{_≡_, sym, ap, ap₂, _∙_}
+use mathlib.Core.Path.{_≡_, ap₂, _∙_}
 use mathlib.Core.List.{List, _++_}
-use Prim.Native.Nat.{ℕ, _+_, _-_, _*_, _≤_, _<_}
+use Prim.Native.Nat.{ℕ, _+_, _-_, _*_, _<_}
 use native.Mathlib.Nat.{sub-zero}
 use native.Mathlib.Omega.{arith}
-use lib.Arith.{digits-lt}
 use lib.ListN.{length, take, drop, length-append, length-take, length-drop}
 use lib.Seq.{take-at, drop-at, take-all, getD-take, getD-drop}
 use lib.Ieee.{Float, nan}
@@ -44,9 +43,9 @@ module _ (n : ℕ) (s : List Float) (long : length s ≡ kept-size n) where
         Filled n (with-targets page n h target i (part (n * n) (n * n + n) between)) b → TookPage page n h target i s (withPart (n * n) (n * n + n) b between)
     took page target h i b len' g f =
         let both = both-parts (n * n) n s a b long len in
-        let less = rw second at len' ∙ tail-long in
+        let behind = rw second at len' ∙ tail-long in
         record {
-          long = rw both (simp length-append (omega (arith, len, less, long)));
+          long = rw both (simp length-append (omega (arith, len, behind, long)));
           pairs = rw (both, take-at a b (n * n) len) (rw sub-zero at g);
           products = rw (both, drop-at a b (n * n) len) (rw second at f);
         }

@@ -1,6 +1,5 @@
 -- `take_page` meets its contract: the pair sums and the target products are lent their parts, one after the other.
 use mathlib.Core.Path.{_∙_}
-use native.Mathlib.Omega.{arith}
 use borrow.Author.Needs.{needs}
 use denote.Ref.{now}
 use Rattle.steps.specs.Space.{withPart}
@@ -49,13 +48,16 @@ same-length c = search needs
 returns : tie.Need-returns
 unfolding withPart
 returns c =
-    let products = c .before .before .take-targets in
-    let pairs = c .before .before .before .before .before .before .add-page in
-    let start = c .before .before .before .before .before .before .before .before .before .before .before in
+    let behind = c .before .before in
+    let square = behind .before .before .before .before in
+    let start = square .before .before .before .before .before in
+    let pairs = square .add-page in
+    let products = behind .take-targets in
     let a = start .args in
     let s = now (a .sums) in
-    let square = pairs .ensures .long ∙ head-long _ s (start .pre .2) in
-    took _ s (start .pre .2) (pairs .last .1 .1 .1 .0) square _ (now (a .target)) (a .h) (a .i) (products .last .1 .1 .1 .1 .1 .0) (products .kept .1 .1 .1 .1 .1 .0) (pairs .ensures) (products .ensures)
+    let long = start .pre .2 in
+    took _ s long (pairs .last .1 .1 .1 .0) (pairs .ensures .long ∙ head-long _ s long) _ (now (a .target)) (a .h) (a .i)
+    (products .last .1 .1 .1 .1 .1 .0) (products .kept .1 .1 .1 .1 .1 .0) (pairs .ensures) (products .ensures)
 
 pub take-page-spec : {M : Type 1} → statement M
 take-page-spec =
