@@ -7,7 +7,7 @@ ghost use Rattle.sums.specs.Inner.{Matrix};
 ghost use Rattle.sums.specs.Pages.{Holds, UpperSums};
 use pairs::inner::add_page;
 
-// The page takes the h rows of theta from row i on: the one place that knows how theta is stored.
+// The page takes the h rows of theta from row i on: nothing else of `jtj` or of a fit by sums knows how theta is stored.
 pub fn fill_page(theta: &[f64], n_cols: usize, i: usize, h: usize, page: &mut [f64])
     requires { ⌜ (i * «n_cols» + h * «n_cols» ≤ length (now theta)) × (h * «n_cols» ≤ length (now page)) ⌝ }
     ensures { λ _. ⌜ Holds (cell-of «n_cols» (now (theta .entry))) «n_cols» i h (now (page .exit)) ⌝ }
