@@ -60,5 +60,5 @@ int main(void) {
     if (dapmotar_strlsq(matrix, ROWS * COLS, ROWS, COLS, target, ROWS, 0.25, 1e-6, 10, values, COLS, space, need, report)) return 2;
     printf("theta of %d by %d stands in %zu pages, %d at hand at once\n", ROWS, COLS, pages, AT_HAND);
     printf("jtj brings in %zu, jtr %zu, strlsq with %d refits %zu\n", jtj, jtr, (int)report[1], brought);
-    return jtj != pages || jtr != pages;
+    return jtj != pages || jtr != pages || brought != pages;
 }

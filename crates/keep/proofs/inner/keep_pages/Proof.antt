@@ -51,11 +51,17 @@ take-page-requires c κs =
     )
 
 sub-left : tie.Need-sub-left Inv-loop μ-loop
-sub-left c = let next = c .before .before .before .before .before .before .before .before .before in omega (arith, next .page-rows .ensures .1)
+sub-left c =
+    let taken = c .before .before in
+    let filled = taken .before .before .before .before .before in
+    let next = filled .before .before in
+    omega (arith, next .page-rows .ensures .1)
 
 loop-less : tie.Need-loop-less Inv-loop μ-loop
 loop-less c =
-    let next = c .before .before .before .before .before .before .before .before .before in
+    let taken = c .before .before in
+    let filled = taken .before .before .before .before .before in
+    let next = filled .before .before in
     omega (arith, next .page-rows .ensures .0, next .page-rows .ensures .1)
 
 loop-again : tie.Need-loop-again Inv-loop μ-loop
