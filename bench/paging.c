@@ -58,7 +58,10 @@ int main(void) {
     size_t jtr = brought;
     send_all_away(bytes);
     if (dapmotar_strlsq(matrix, ROWS * COLS, ROWS, COLS, target, ROWS, 0.25, 1e-6, 10, values, COLS, space, need, report)) return 2;
+    size_t strlsq = brought, refits = report[1];
+    send_all_away(bytes);
+    if (dapmotar_strlsq_marquardt(matrix, ROWS * COLS, ROWS, COLS, target, ROWS, 0.25, 1e-6, 10, values, COLS, space, need, report)) return 2;
     printf("theta of %d by %d stands in %zu pages, %d at hand at once\n", ROWS, COLS, pages, AT_HAND);
-    printf("jtj brings in %zu, jtr %zu, strlsq with %d refits %zu\n", jtj, jtr, (int)report[1], brought);
-    return jtj != pages || jtr != pages || brought != pages;
+    printf("jtj brings in %zu, jtr %zu, strlsq with %zu refits %zu, strlsq_marquardt with %zu refits %zu\n", jtj, jtr, refits, strlsq, (size_t)report[1], brought);
+    return jtj != pages || jtr != pages || strlsq != pages || brought != pages;
 }

@@ -9,7 +9,7 @@
 
 enum { STACK = 1 << 20, ROWS = 4096, COLS = 64, PAINT = 0xa5 };
 
-static const char *const names[] = {"nothing", "jtj", "jtr", "cholesky", "lu", "normal", "qr", "least", "strlsq", "strlsq_qr", "respond", "sqrt"};
+static const char *const names[] = {"nothing", "jtj", "jtr", "cholesky", "lu", "normal", "qr", "least", "strlsq", "strlsq_qr", "respond", "sqrt", "invert", "strlsq_marquardt"};
 static unsigned char *stack, input[40000], answer[DAPMOTAR_ANSWER];
 static size_t which, input_len;
 static double *theta, *target, *square, *values, *space;
@@ -28,6 +28,8 @@ static void *call(void *unused) {
     case 9: dapmotar_strlsq_qr(theta, ROWS * COLS, ROWS, COLS, target, ROWS, 0.25, 1e-6, 10, values, COLS, space, dapmotar_strlsq_qr_workspace(ROWS, COLS), report); break;
     case 10: dapmotar_respond(input, input_len, answer); break;
     case 11: dapmotar_sqrt(2.0); break;
+    case 12: dapmotar_invert_spd(square, COLS * COLS, COLS, space, COLS * COLS, space + COLS * COLS, COLS * COLS + COLS, column); break;
+    case 13: dapmotar_strlsq_marquardt(theta, ROWS * COLS, ROWS, COLS, target, ROWS, 0.25, 1e-6, 10, values, COLS, space, dapmotar_strlsq_marquardt_workspace(ROWS, COLS), report); break;
     }
     return unused;
 }
@@ -58,6 +60,9 @@ int main(int argc, char **argv) {
     if (posix_memalign((void **)&stack, 4096, STACK) != 0) return 2;
     used(); // the first thread also binds what later ones find bound
     long bare = used();
-    for (which = 1; which < sizeof names / sizeof names[0]; which++) printf("%-10s %6ld bytes\n", names[which], used() - bare);
+    for (which = 1; which < sizeof names / sizeof names[0]; which++) {
+        for (size_t i = 0; i < COLS * COLS; i++) square[i] = i % (COLS + 1) ? 0.0 : 1.0; // which no solver refuses
+        printf("%-16s %6ld bytes\n", names[which], used() - bare);
+    }
     return 0;
 }

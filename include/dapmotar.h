@@ -16,8 +16,8 @@
  *              starts, but one linked with -ffast-math may not. No call tests it: rounded upward, for one, the answers
  *              have other bits.
  * Answers.     0, or the number of the refusal: the first that applies, in the order below. No call traps.
- * Workspaces   are lent by the caller. They may be longer than needed. After an accepted call and after 9 they are
- *              +0.0 over the needed length; numbers past it are untouched.
+ * Workspaces   are lent by the caller. They may be longer than needed. After an accepted call and after 8 and 9 they
+ *              are +0.0 over the needed length; numbers past it are untouched.
  * Threads.     A call touches nothing but its arguments, and up to 20 KB of stack; dapmotar_respond up to 80 KB.
  */
 #ifndef DAPMOTAR_H
@@ -32,7 +32,7 @@ extern "C" {
 
 /* Limits. */
 enum {
-    DAPMOTAR_MAX_COLS = 64,      /* columns of a fit, jtj, jtr, qr, least squares; n of a square solver */
+    DAPMOTAR_MAX_COLS = 64,      /* columns of a fit, jtj, jtr, qr, least squares; n of a square solver and the inverse */
     DAPMOTAR_MAX_ROWS = 4096,    /* rows of a fit, jtj, jtr */
     DAPMOTAR_MAX_QR_ROWS = 4160, /* rows of qr and least squares */
     DAPMOTAR_MAX_ROUNDS = 1000   /* max_iter of a fit */
@@ -84,6 +84,13 @@ uint64_t dapmotar_jtj(const double *jac, size_t jac_len, size_t n_rows, size_t n
                       double *out, size_t out_len);
 
 /*
+ * out = J^T J, each number d of its diagonal damped in proportion: d + lambda where |d| is below 2^-52, else
+ * d + lambda * d. Refusals as dapmotar_jtj.
+ */
+uint64_t dapmotar_jtj_marquardt(const double *jac, size_t jac_len, size_t n_rows, size_t n_params, double lambda,
+                                double *out, size_t out_len);
+
+/*
  * out = J^T r, for J of n_rows by n_params and r of n_rows. out has n_params numbers.
  * Refusals: 1, 2, 4, 5, 6.
  */
@@ -91,7 +98,8 @@ uint64_t dapmotar_jtr(const double *jac, size_t jac_len, const double *r, size_t
                       size_t n_params, double *out, size_t out_len);
 
 /*
- * The four solvers: column[0] is the column at which the call refused, under 8 and 9 only; else it is unchanged.
+ * The four solvers and the inverse: column[0] is the column at which the call refused, under 8 and 9 only; else it is
+ * unchanged.
  *
  * Solves a x = b by Cholesky, for a of n by n: b becomes x, a its factor on and below the diagonal.
  * Refusals: 1, 4, 5, 8. 8 leaves b unchanged; the columns of a before the refused one hold the factor on and below
@@ -111,6 +119,14 @@ uint64_t dapmotar_solve_lu(double *a, size_t a_len, double *b, size_t b_len, siz
  */
 uint64_t dapmotar_solve_normal_equations(const double *a, size_t a_len, double *b, size_t b_len, size_t n,
                                          double *workspace, size_t workspace_len, uint64_t column[1]);
+
+/*
+ * out = the inverse of a, for a of n by n and positive definite, by Cholesky: a column of it solves for a column of 1.0
+ * and zeros. Only a's numbers on and below the diagonal are read. out has n * n numbers. Workspace: n * n + n numbers.
+ * Refusals: 1, 4, 6, 7, 8. 8 leaves out unchanged.
+ */
+uint64_t dapmotar_invert_spd(const double *a, size_t a_len, size_t n, double *out, size_t out_len,
+                             double *workspace, size_t workspace_len, uint64_t column[1]);
 
 /*
  * The Householder factors of a, m by n: data has m * n numbers (R on and above the diagonal, the vectors below it
@@ -151,6 +167,15 @@ uint64_t dapmotar_strlsq_qr(const double *theta, size_t theta_len, size_t n_rows
                             size_t workspace_len, uint64_t report[4]);
 
 /*
+ * The fit by normal equations that are damped in proportion, as dapmotar_jtj_marquardt damps, in the first solve and
+ * in each refit; else as dapmotar_strlsq. Workspace: dapmotar_strlsq_marquardt_workspace(n_rows, n_cols) numbers.
+ */
+uint64_t dapmotar_strlsq_marquardt(const double *theta, size_t theta_len, size_t n_rows, size_t n_cols,
+                                   const double *target, size_t target_len, double threshold, double lambda,
+                                   size_t max_iter, double *coeffs, size_t coeffs_len, double *workspace,
+                                   size_t workspace_len, uint64_t report[4]);
+
+/*
  * The numbers of workspace that a fit needs, with r rows and c columns: 3*c*c + 2*c for the normal equations (at any r),
  * 2*(r+c)*c + 3*(r+c) + 3*c for QR. 0 says that none is needed (no columns; for QR no rows either), or that the sizes
  * are beyond the limits: then the fit is refused, 1 or 2, whatever workspace it gets. Either way a null pointer with
@@ -158,6 +183,7 @@ uint64_t dapmotar_strlsq_qr(const double *theta, size_t theta_len, size_t n_rows
  */
 size_t dapmotar_strlsq_workspace(size_t n_rows, size_t n_cols);
 size_t dapmotar_strlsq_qr_workspace(size_t n_rows, size_t n_cols);
+size_t dapmotar_strlsq_marquardt_workspace(size_t n_rows, size_t n_cols);
 
 /* The room for an answer of dapmotar_respond: a report's line, and a line for each of 16 coefficients. */
 enum { DAPMOTAR_ANSWER = 297 };

@@ -33,7 +33,19 @@ fn main() {
         println!("cargo::rerun-if-changed={}", path.display());
     }
     let out = PathBuf::from(env::var_os("OUT_DIR").expect("cargo sets OUT_DIR"));
-    fs::write(out.join("published.rs"), module_file(&folder)).expect("the module file is written");
+    let third = out.join("strlsq_marquardt.rs");
+    fs::write(&third, third_fit(&folder)).expect("the third fit is written");
+    fs::write(out.join("published.rs"), module_file(&folder, &third))
+        .expect("the module file is written");
+}
+
+/// The reference of the third fit, which the published sources don't have: their `strlsq`, the damping exchanged in
+/// its first solve and in its refits, and not a letter more.
+fn third_fit(folder: &Path) -> String {
+    let (plain, in_proportion) = ("linalg::jtj(", "linalg::jtj_marquardt(");
+    let text = fs::read_to_string(folder.join("src/symreg/strlsq.rs")).expect("the file was there");
+    assert_eq!(text.matches(plain).count(), 2, "strlsq.rs damps elsewhere");
+    text.replace(plain, in_proportion)
 }
 
 /// The folder of the published sources, whole.
@@ -51,14 +63,9 @@ fn folder() -> PathBuf {
 }
 
 /// The modules that the sources name (`crate::error`, `crate::linalg`), each taken from its file.
-fn module_file(folder: &Path) -> String {
+fn module_file(folder: &Path, third: &Path) -> String {
     let mut text = String::new();
-    let module = |name: &str, file: &str| {
-        format!(
-            "#[path = {:?}]\n#[allow(clippy::all)]\npub mod {name};\n",
-            folder.join(file)
-        )
-    };
+    let module = |name: &str, file: &str| module_at(name, &folder.join(file));
     text += &module("error", "src/error.rs");
     text += "pub mod linalg {\n";
     text += &module("builders", "src/linalg/builders.rs");
@@ -67,6 +74,7 @@ fn module_file(folder: &Path) -> String {
     text += "pub use builders::*;\npub use decomp::*;\npub use solve::*;\n}\n";
     text += "pub mod symreg {\n";
     text += &module("strlsq", "src/symreg/strlsq.rs");
+    text += &module_at("strlsq_marquardt", third);
     text += "}\n";
     text += "/// Each published file with the fingerprint of its bytes as built.\n";
     text += "pub const BUILT_FROM: &[(&str, u64)] = &[\n";
@@ -75,6 +83,10 @@ fn module_file(folder: &Path) -> String {
         writeln!(text, "({file:?}, {:#018x}),", fingerprint(&bytes)).expect("a String takes it");
     }
     text + "];\n"
+}
+
+fn module_at(name: &str, file: &Path) -> String {
+    format!("#[path = {file:?}]\n#[allow(clippy::all)]\npub mod {name};\n")
 }
 
 /// FNV-1a of 64 bits.

@@ -3,7 +3,7 @@
 use crate::data::{Data, LAMBDA, MAX_ITER, THRESHOLD};
 use dapmotar::Setup;
 use oracle::linalg;
-use oracle::symreg::strlsq;
+use oracle::symreg::{strlsq, strlsq_marquardt};
 
 /// The port's outputs and workspace, lent to every call.
 pub struct Room {
@@ -38,19 +38,33 @@ const SETUP: Setup = Setup {
     max_iter: MAX_ITER,
 };
 
-pub const STRLSQ: Call = Call {
-    name: "strlsq",
-    out: |d| d.cols,
-    workspace: |d| dapmotar::strlsq_workspace(d.rows, d.cols),
-    port: |d, room| {
-        refits(d, room);
-    },
-    rust: |d| {
-        strlsq::strlsq(
-            &d.theta, d.rows, d.cols, &d.target, THRESHOLD, LAMBDA, MAX_ITER,
-        )
-    },
-};
+/// A fit, by the port's call with its workspace and by the Rust's.
+macro_rules! fit {
+    ($name:literal, $port:path, $workspace:path, $rust:path) => {
+        Call {
+            name: $name,
+            out: |d| d.cols,
+            workspace: |d| $workspace(d.rows, d.cols),
+            port: |d, Room { out, workspace }| {
+                $port(&d.theta, d.rows, d.cols, &d.target, SETUP, out, workspace)
+                    .map(|_| ())
+                    .expect("accepted")
+            },
+            rust: |d| {
+                $rust(
+                    &d.theta, d.rows, d.cols, &d.target, THRESHOLD, LAMBDA, MAX_ITER,
+                )
+            },
+        }
+    };
+}
+
+pub const STRLSQ: Call = fit!(
+    "strlsq",
+    dapmotar::strlsq,
+    dapmotar::strlsq_workspace,
+    strlsq::strlsq
+);
 
 /// The port's `strlsq`, and how often it refitted.
 pub fn refits(d: &Data, Room { out, workspace }: &mut Room) -> u64 {
@@ -58,7 +72,7 @@ pub fn refits(d: &Data, Room { out, workspace }: &mut Room) -> u64 {
     report.expect("accepted").refits
 }
 
-pub const ALL: [Call; 6] = [
+pub const ALL: [Call; 9] = [
     Call {
         name: "jtj",
         out: |d| d.cols * d.cols,
@@ -67,6 +81,16 @@ pub const ALL: [Call; 6] = [
             dapmotar::jtj(&d.theta, d.rows, d.cols, LAMBDA, &mut room.out).expect("accepted")
         },
         rust: |d| linalg::jtj(&d.theta, d.rows, d.cols, LAMBDA),
+    },
+    Call {
+        name: "jtj_marquardt",
+        out: |d| d.cols * d.cols,
+        workspace: |_| 0,
+        port: |d, room| {
+            dapmotar::jtj_marquardt(&d.theta, d.rows, d.cols, LAMBDA, &mut room.out)
+                .expect("accepted")
+        },
+        rust: |d| linalg::jtj_marquardt(&d.theta, d.rows, d.cols, LAMBDA),
     },
     Call {
         name: "jtr",
@@ -93,6 +117,15 @@ pub const ALL: [Call; 6] = [
         },
     },
     Call {
+        name: "invert_spd",
+        out: |d| d.cols * d.cols,
+        workspace: |d| d.cols * d.cols + d.cols,
+        port: |d, Room { out, workspace }| {
+            dapmotar::invert_spd(&d.sums, d.cols, out, workspace).expect("accepted")
+        },
+        rust: |d| linalg::invert_spd(&d.sums, d.cols).expect("accepted"),
+    },
+    Call {
         name: "solve_least_squares",
         out: |d| d.cols,
         workspace: |d| d.rows * d.cols + 2 * d.rows + 2 * d.cols,
@@ -105,19 +138,16 @@ pub const ALL: [Call; 6] = [
         },
     },
     STRLSQ,
-    Call {
-        name: "strlsq_qr",
-        out: |d| d.cols,
-        workspace: |d| dapmotar::strlsq_qr_workspace(d.rows, d.cols),
-        port: |d, Room { out, workspace }| {
-            dapmotar::strlsq_qr(&d.theta, d.rows, d.cols, &d.target, SETUP, out, workspace)
-                .map(|_| ())
-                .expect("accepted")
-        },
-        rust: |d| {
-            strlsq::strlsq_qr(
-                &d.theta, d.rows, d.cols, &d.target, THRESHOLD, LAMBDA, MAX_ITER,
-            )
-        },
-    },
+    fit!(
+        "strlsq_qr",
+        dapmotar::strlsq_qr,
+        dapmotar::strlsq_qr_workspace,
+        strlsq::strlsq_qr
+    ),
+    fit!(
+        "strlsq_marquardt",
+        dapmotar::strlsq_marquardt,
+        dapmotar::strlsq_marquardt_workspace,
+        strlsq_marquardt::strlsq
+    ),
 ];

@@ -51,7 +51,7 @@ fn main() -> ExitCode {
         return ExitCode::from(2);
     }
     let within = rows.iter().chain(&small).all(table::Row::within);
-    if within && table::more_refits(&rows) <= table::MORE_REFITS {
+    if within && table::between_within(&rows) {
         ExitCode::SUCCESS
     } else {
         ExitCode::FAILURE

@@ -34,7 +34,7 @@ impl Row {
     fn limit(&self) -> f64 {
         let size = (self.rows, self.cols);
         match self.name {
-            "jtj" => limit_at(size, [0.07, 0.3, 0.5]),
+            "jtj" | "jtj_marquardt" => limit_at(size, [0.07, 0.3, 0.5]),
             "solve_normal_equations" if self.cols <= 8 => 1.8,
             "solve_normal_equations" if self.cols <= 16 => 1.3,
             "solve_least_squares" | "strlsq_qr" => limit_at(size, [0.35, 1.0, 0.85]),
@@ -47,10 +47,12 @@ impl Row {
         self.ratio() <= self.limit()
     }
 
-    /// A row of the table. The normal equations alone see the columns only.
+    /// A row of the table. The normal equations and the inverse see the columns only.
     fn text(&self) -> String {
         let size = match self.name {
-            "solve_normal_equations" => format!("{0}x{0}, of {1} rows", self.cols, self.rows),
+            "solve_normal_equations" | "invert_spd" => {
+                format!("{0}x{0}, of {1} rows", self.cols, self.rows)
+            }
             _ => format!("{}x{}", self.rows, self.cols),
         };
         format!(
@@ -85,10 +87,10 @@ fn time(seconds: f64) -> String {
 /// The tables under a line on the machine and the date.
 pub fn text(rows: &[Row], small: &[Row]) -> String {
     format!(
-        "{}\n\n{}\n`strlsq` at 4096x64 takes {:.2} times as long with eight refits as with one; at most {MORE_REFITS:.2} is allowed.\n\nSmall sizes:\n\n{}",
+        "{}\n\n{}\n{}\nSmall sizes:\n\n{}",
         machine::line(),
         table(rows),
-        more_refits(rows),
+        between(rows),
         table(small)
     )
 }
@@ -101,15 +103,37 @@ fn table(rows: &[Row]) -> String {
 }
 
 /// The most that `strlsq` at 4096x64 may take with eight refits, as a multiple of its time with one.
-pub const MORE_REFITS: f64 = 1.15;
+const MORE_REFITS: f64 = 1.15;
+/// The most that `strlsq_marquardt` may take there, as a multiple of the time of `strlsq`.
+const IN_PROPORTION: f64 = 1.05;
 
-/// What it takes so.
-pub fn more_refits(rows: &[Row]) -> f64 {
-    let port = |name| {
-        let row = rows.iter().find(|r| r.name == name && r.rows == 4096);
-        row.expect("it is measured").times.port
-    };
-    port("strlsq, 8 refits") / port("strlsq, 1 refit")
+fn more_refits(rows: &[Row]) -> f64 {
+    port(rows, "strlsq, 8 refits") / port(rows, "strlsq, 1 refit")
+}
+
+fn in_proportion(rows: &[Row]) -> f64 {
+    port(rows, "strlsq_marquardt") / port(rows, "strlsq")
+}
+
+/// The port's time for a call at 4096x64.
+fn port(rows: &[Row], name: &str) -> f64 {
+    let row = rows.iter().find(|r| r.name == name && r.rows == 4096);
+    row.expect("it is measured").times.port
+}
+
+/// What the port's own times at 4096x64 are to each other.
+fn between(rows: &[Row]) -> String {
+    format!(
+        "At 4096x64 `strlsq` takes {:.2} times as long with eight refits as with one; at most {MORE_REFITS:.2} is allowed. \
+         `strlsq_marquardt` takes {:.2} times as long as `strlsq`; at most {IN_PROPORTION:.2} is allowed.\n",
+        more_refits(rows),
+        in_proportion(rows)
+    )
+}
+
+/// Whether they are within what is allowed.
+pub fn between_within(rows: &[Row]) -> bool {
+    more_refits(rows) <= MORE_REFITS && in_proportion(rows) <= IN_PROPORTION
 }
 
 const END: &str = "<!-- end of table -->\n";

@@ -15,6 +15,14 @@ pub fn cholesky(a: &[f64], left: &[f64], n: usize) -> usize {
         .expect("Cholesky refused")
 }
 
+/// Cholesky's, of a matrix that the inverse refused.
+pub fn of_cholesky(a: &[f64], n: usize) -> usize {
+    let mut left = a.to_vec();
+    let refused = linalg::solve_spd_cholesky(&mut left, &mut vec![0.0; n], n);
+    assert!(refused.is_err(), "Cholesky refused");
+    cholesky(a, &left, n)
+}
+
 /// LU's: the first small number on the diagonal of what it left. Those before it are pivots that it took.
 pub fn lu(left: &[f64], n: usize) -> usize {
     small(left, n).next().expect("LU refused")

@@ -30,6 +30,12 @@ pub fn all() -> Vec<Example> {
         example("in-series", in_series(0.0), Stop::FirstRefused),
         example("in-series-damped", in_series(0.0625), Stop::Settled),
         example("in-series-refit", g8(), Stop::RefitRefused),
+        example("two-units", two_units(Solver::Normal), Stop::Settled),
+        example(
+            "two-units-in-proportion",
+            two_units(Solver::Marquardt),
+            Stop::Settled,
+        ),
         example("dead-port", dead_port(), Stop::Settled),
         example("nan-reading", nan_reading(), Stop::Empty),
         example("no-rows", no_rows(), Stop::NoData),
@@ -104,6 +110,19 @@ fn in_series(lambda: f64) -> Problem {
         p.set(row, 1, other[row]);
         p.set(row, 2, flow[row]);
         p.target[row] = 2.0 * flow[row] + other[row];
+    }
+    p
+}
+
+/// One port reads litres an hour, the other cubic metres a second; the reference flow is in litres an hour.
+fn two_units(solver: Solver) -> Problem {
+    let litres = [900.0, -300.0, 600.0, 1200.0, -600.0, 300.0];
+    let metres = [1.0, 2.0, -1.0, 1.0, 1.0, -3.0].map(|x| x / 4096.0);
+    let mut p = Problem::zeros(solver, 6, 2, setup(0.125, 1.0 / 1024.0));
+    for row in 0..6 {
+        p.set(row, 0, litres[row]);
+        p.set(row, 1, metres[row]);
+        p.target[row] = 0.5 * litres[row] + 0.25 * 3_600_000.0 * metres[row];
     }
     p
 }

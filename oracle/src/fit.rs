@@ -1,13 +1,14 @@
-//! Both fits restated over one loop, so that stop, refits, kept word and refused term can be told.
+//! The three fits restated over one loop, so that stop, refits, kept word and refused term can be told.
 //!
 //! The published functions give the coefficients only. `fit` runs them too and stops the program if a single
-//! bit differs, so a report stands only beside coefficients that are the published ones.
+//! bit differs, so a report stands only beside coefficients that are the published ones. The third fit is not
+//! published: what runs in its place is the text of `strlsq` with `jtj_marquardt` for `jtj` (build.rs).
 
 use crate::bits::first_difference;
 use crate::columns;
 use crate::linalg;
 use crate::problem::{Problem, Setup, Solver};
-use crate::symreg::strlsq::{strlsq, strlsq_qr};
+use crate::symreg::{strlsq, strlsq_marquardt};
 
 /// Why a fit ended, in code order.
 #[derive(Clone, Copy, Debug, PartialEq, Eq)]
@@ -68,25 +69,31 @@ pub fn fit(p: &Problem) -> Fit {
     fit
 }
 
-/// The signature of the published functions.
+/// The signature of the published builders of damped pair sums.
+pub type PairSums = fn(&[f64], usize, usize, f64) -> Vec<f64>;
+
+/// The signature of the published fits.
 pub type Published = fn(&[f64], usize, usize, &[f64], f64, f64, usize) -> Vec<f64>;
 
-/// The coefficients by the published function.
+/// The coefficients by the published function that solves as the problem asks.
 pub fn published(p: &Problem) -> Vec<f64> {
-    fitted_by(p, strlsq, strlsq_qr)
+    fitted_by(
+        p,
+        match p.solver {
+            Solver::Normal => strlsq::strlsq,
+            Solver::Qr => strlsq::strlsq_qr,
+            Solver::Marquardt => strlsq_marquardt::strlsq,
+        },
+    )
 }
 
-/// The coefficients by the one of two functions that solves as the problem asks.
-pub fn fitted_by(p: &Problem, normal: Published, qr: Published) -> Vec<f64> {
+/// The coefficients by a function of that signature.
+pub fn fitted_by(p: &Problem, fit: Published) -> Vec<f64> {
     let Setup {
         threshold,
         lambda,
         max_iter,
     } = p.setup;
-    let fit = match p.solver {
-        Solver::Normal => normal,
-        Solver::Qr => qr,
-    };
     fit(
         &p.theta, p.rows, p.cols, &p.target, threshold, lambda, max_iter,
     )
@@ -191,16 +198,17 @@ fn terms_of(support: u64) -> Vec<usize> {
 /// The solve over some of theta's columns, or the one of them at which it refuses.
 fn solve(p: &Problem, terms: &[usize]) -> Result<Vec<f64>, usize> {
     match p.solver {
-        Solver::Normal => solve_normal(p, terms),
+        Solver::Normal => solve_normal(p, terms, linalg::jtj),
         Solver::Qr => solve_qr(p, terms),
+        Solver::Marquardt => solve_normal(p, terms, linalg::jtj_marquardt),
     }
 }
 
 /// By the normal equations: the refused column is LU's.
-fn solve_normal(p: &Problem, terms: &[usize]) -> Result<Vec<f64>, usize> {
+fn solve_normal(p: &Problem, terms: &[usize], jtj: PairSums) -> Result<Vec<f64>, usize> {
     let c = terms.len();
     let theta = part(p, terms, 0);
-    let a = linalg::jtj(&theta, p.rows, c, p.setup.lambda);
+    let a = jtj(&theta, p.rows, c, p.setup.lambda);
     let mut b = linalg::jtr(&theta, &p.target, p.rows, c);
     if linalg::solve_normal_equations(&a, &mut b, c).is_ok() {
         return Ok(b);

@@ -54,6 +54,7 @@ pub fn read(input: &[u8]) -> Result<Problem, Refusal> {
     let solver = match number(&header[0..2]) {
         1 => Solver::Normal,
         2 => Solver::Qr,
+        3 => Solver::Marquardt,
         _ => return Err(Refusal::MalformedFrame),
     };
     let rows = number(&header[2..6]) as usize;
@@ -185,7 +186,7 @@ mod tests {
             answer(&format!("{code}{rows}{cols}{rounds}{:032x}\n", 0))
         };
         assert_eq!(header("00", "ffff", "ff", "ffff"), "ff0b\n");
-        assert_eq!(header("03", "0000", "00", "0000"), "ff0b\n");
+        assert_eq!(header("04", "0000", "00", "0000"), "ff0b\n");
         assert_eq!(header("01", "ffff", "ff", "ffff"), "ff01\n");
         assert_eq!(header("01", "ffff", "10", "ffff"), "ff02\n");
         assert_eq!(header("01", "0080", "10", "ffff"), "ff03\n");
@@ -193,6 +194,7 @@ mod tests {
         assert_eq!(header("01", "0000", "11", "0000"), "ff01\n");
         assert_eq!(header("02", "0081", "00", "0000"), "ff02\n");
         assert_eq!(header("02", "0000", "00", "03e9"), "ff03\n");
+        assert_eq!(header("03", "ffff", "ff", "ffff"), "ff01\n");
         assert_eq!(
             header("02", "0000", "00", "03e8"),
             "0000000000000000000000ff\n"

@@ -4,16 +4,18 @@
 pub enum Solver {
     Normal,
     Qr,
+    Marquardt,
 }
 
 impl Solver {
-    pub const BOTH: [Solver; 2] = [Solver::Normal, Solver::Qr];
+    pub const ALL: [Solver; 3] = [Solver::Normal, Solver::Qr, Solver::Marquardt];
 
     /// The code in a header.
     pub fn code(self) -> u8 {
         match self {
             Solver::Normal => 1,
             Solver::Qr => 2,
+            Solver::Marquardt => 3,
         }
     }
 
@@ -21,6 +23,7 @@ impl Solver {
         match self {
             Solver::Normal => "normal",
             Solver::Qr => "qr",
+            Solver::Marquardt => "marquardt",
         }
     }
 }

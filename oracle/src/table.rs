@@ -3,7 +3,7 @@
 use crate::bits::{first_difference, same};
 use crate::fit::{NO_TERM, Report, Stop, fit};
 use crate::frames::respond;
-use crate::linalg::{qr, solve_lu, solve_spd_cholesky};
+use crate::linalg::{invert_spd, qr, solve_lu, solve_spd_cholesky};
 use crate::model;
 use crate::problem::{Problem, Setup, Solver};
 use crate::refusal::Refusal;
@@ -20,6 +20,7 @@ pub fn lines() -> Vec<Line> {
     let mut lines = roots();
     lines.extend(fits());
     lines.extend(solvers());
+    lines.extend(inverses());
     lines.push(exchange());
     lines.extend(sizes());
     lines
@@ -180,6 +181,10 @@ fn fits() -> Vec<Line> {
             1,
         ),
         case_at("G8", g8(), &[0.0; 3], RefitRefused, 1, 0, 2),
+        case("G9", g9(), &[1_f64.next_down(), 1.0, 1.0], Settled, 1, 7),
+        case("G10", apart(0.5, 1.0), &[0.5, 1.0], Settled, 1, 3),
+        case("G11", apart(1.0, 0.25), &[0.0, 1.0], Settled, 1, 2),
+        case("G12", g12(), &[f64::NAN], OutOfRounds, 0, 0),
     ]
 }
 
@@ -208,6 +213,31 @@ pub fn g8() -> Problem {
     rows(Solver::Qr, &theta, &[0.0, 1.0, 0.0], 0.0)
 }
 
+/// Damped in proportion by 4: a sum just below 2^-52, which gets 4, one of 2^-52 and one of 4, which get four times themselves.
+fn g9() -> Problem {
+    let small = 2.0_f64.powi(-26);
+    let theta = [small.next_down(), 0.0, 0.0, 0.0, small, 0.0, 0.0, 0.0, 2.0];
+    let target = [2.0_f64.powi(28), 5.0 * small, 10.0];
+    rows(Solver::Marquardt, &theta, &target, 4.0)
+}
+
+/// Damped in proportion by 3: a port of this reading and target, and one of reading 2 and target 8.
+fn apart(reading: f64, target: f64) -> Problem {
+    rows(
+        Solver::Marquardt,
+        &[reading, 0.0, 0.0, 2.0],
+        &[target, 8.0],
+        3.0,
+    )
+}
+
+/// A sum that is NaN, damped in proportion.
+fn g12() -> Problem {
+    let mut p = rows(Solver::Marquardt, &[f64::NAN], &[1.0], 3.0);
+    p.setup.max_iter = 0;
+    p
+}
+
 fn solvers() -> Vec<Line> {
     let (mut a, mut b) = (vec![1.0, 2.0, -1.0, 3.0], vec![1.0, 4.0]);
     let accepted = solve_lu(&mut a, &mut b, 2).is_ok();
@@ -229,6 +259,32 @@ fn solvers() -> Vec<Line> {
         line("C1", format!("Cholesky of {up:e} passes"), cholesky(up)),
         line("C2", "LU of 1e-15 is accepted", lu(1e-15)),
         line("C2", format!("LU of {down:e} is refused"), !lu(down)),
+    ]
+}
+
+/// The inverses of the proved table.
+fn inverses() -> Vec<Line> {
+    let inverse = invert_spd(&[2.0, 1.0, 1.0, 2.0], 2).expect("it is positive definite");
+    let bits = [
+        0x3fe5_5555_5555_5554,
+        0xbfd5_5555_5555_5556,
+        0xbfd5_5555_5555_5555,
+        0x3fe5_5555_5555_5557,
+    ];
+    let i1 = first_difference(&inverse, &bits.map(f64::from_bits)).is_none();
+
+    let (mut out, mut workspace, mut column) = ([3.0, 5.0, 1.0, 2.0], [7.0; 6], 9);
+    let refused = model::invert_spd(
+        &[4.0, 2.0, 2.0, -1.0],
+        2,
+        &mut out,
+        &mut workspace,
+        &mut column,
+    );
+    let i2 = (refused, column) == (Err(Refusal::Cholesky), 1) && out == [3.0, 5.0, 1.0, 2.0];
+    vec![
+        line("I1", format!("inverse {inverse:?}"), i1),
+        line("I2", "8 at column 1 leaves all of the output", i2),
     ]
 }
 

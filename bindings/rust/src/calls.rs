@@ -1,7 +1,7 @@
 //! A safe wrapper of each call: lent slices in, `Ok` or the refusal out.
 //!
 //! A refusal leaves every slice as it was, but for [`Refusal::Cholesky`] and [`Refusal::SmallPivot`]: see there.
-//! A workspace is +0.0 over the needed length after an accepted call and after `SmallPivot`, and untouched past it.
+//! A workspace is +0.0 over the needed length after an accepted call and after those two, and untouched past it.
 
 use crate::raw::{self, ANSWER};
 use crate::refusal::Refusal;
@@ -25,8 +25,38 @@ pub fn jtj(
     lambda: f64,
     out: &mut [f64],
 ) -> Result<(), Refusal> {
+    pair_sums(raw::dapmotar_jtj, jac, n_rows, n_params, lambda, out)
+}
+
+/// `JᵀJ` of a matrix by rows, each number d of its diagonal damped in proportion: `d + λ` where |d| is below 2^-52,
+/// else `d + λd`. As [`jtj`] otherwise. Refuses 1, 2, 4, 6.
+pub fn jtj_marquardt(
+    jac: &[f64],
+    n_rows: usize,
+    n_params: usize,
+    lambda: f64,
+    out: &mut [f64],
+) -> Result<(), Refusal> {
+    pair_sums(
+        raw::dapmotar_jtj_marquardt,
+        jac,
+        n_rows,
+        n_params,
+        lambda,
+        out,
+    )
+}
+
+fn pair_sums(
+    call: raw::Jtj,
+    jac: &[f64],
+    n_rows: usize,
+    n_params: usize,
+    lambda: f64,
+    out: &mut [f64],
+) -> Result<(), Refusal> {
     Refusal::answer(unsafe {
-        raw::dapmotar_jtj(
+        call(
             jac.as_ptr(),
             jac.len(),
             n_rows,
@@ -102,6 +132,29 @@ pub fn solve_normal_equations(
     })
 }
 
+/// The inverse of a positive definite n by n matrix by Cholesky, into `out` of `n * n` numbers; only what stands on and
+/// below the diagonal of `a` is read. The workspace needs `n * n + n` numbers. Refuses 1, 4, 6, 7, 8; 8 leaves `out`
+/// unchanged.
+pub fn invert_spd(
+    a: &[f64],
+    n: usize,
+    out: &mut [f64],
+    workspace: &mut [f64],
+) -> Result<(), Refusal> {
+    Refusal::answer_at(|column| unsafe {
+        raw::dapmotar_invert_spd(
+            a.as_ptr(),
+            a.len(),
+            n,
+            out.as_mut_ptr(),
+            out.len(),
+            workspace.as_mut_ptr(),
+            workspace.len(),
+            column,
+        )
+    })
+}
+
 /// The Householder factors of an m by n matrix: `data` of `m * n` numbers, `betas` of `n`. The workspace needs
 /// `m` numbers. Refuses 1, 2, 4, 6, 10, 7.
 pub fn qr(
@@ -155,37 +208,34 @@ pub fn solve_least_squares(
     })
 }
 
-/// The fit by normal equations: coefficients into `coeffs` of `n_cols` numbers, and the report. The workspace
-/// needs [`strlsq_workspace`] numbers. Refuses 1 to 7.
-pub fn strlsq(
-    theta: &[f64],
-    n_rows: usize,
-    n_cols: usize,
-    target: &[f64],
-    setup: Setup,
-    coeffs: &mut [f64],
-    workspace: &mut [f64],
-) -> Result<Report, Refusal> {
-    let call = raw::dapmotar_strlsq;
-    fit(
-        call, theta, n_rows, n_cols, target, setup, coeffs, workspace,
-    )
+macro_rules! fits {
+    ($($(#[$doc:meta])* $name:ident by $export:ident;)*) => {$(
+        $(#[$doc])*
+        pub fn $name(
+            theta: &[f64],
+            n_rows: usize,
+            n_cols: usize,
+            target: &[f64],
+            setup: Setup,
+            coeffs: &mut [f64],
+            workspace: &mut [f64],
+        ) -> Result<Report, Refusal> {
+            fit(raw::$export, theta, n_rows, n_cols, target, setup, coeffs, workspace)
+        }
+    )*};
 }
 
-/// The fit by QR: as [`strlsq`], with [`strlsq_qr_workspace`] numbers of workspace. Refuses 1 to 7.
-pub fn strlsq_qr(
-    theta: &[f64],
-    n_rows: usize,
-    n_cols: usize,
-    target: &[f64],
-    setup: Setup,
-    coeffs: &mut [f64],
-    workspace: &mut [f64],
-) -> Result<Report, Refusal> {
-    let call = raw::dapmotar_strlsq_qr;
-    fit(
-        call, theta, n_rows, n_cols, target, setup, coeffs, workspace,
-    )
+fits! {
+    /// The fit by normal equations: coefficients into `coeffs` of `n_cols` numbers, and the report. The workspace
+    /// needs [`strlsq_workspace`] numbers. Refuses 1 to 7.
+    strlsq by dapmotar_strlsq;
+
+    /// The fit by QR: as [`strlsq`], with [`strlsq_qr_workspace`] numbers of workspace. Refuses 1 to 7.
+    strlsq_qr by dapmotar_strlsq_qr;
+
+    /// The fit by normal equations that are damped in proportion, as [`jtj_marquardt`] damps: as [`strlsq`], with
+    /// [`strlsq_marquardt_workspace`] numbers of workspace. Refuses 1 to 7.
+    strlsq_marquardt by dapmotar_strlsq_marquardt;
 }
 
 #[allow(clippy::too_many_arguments)]
@@ -229,6 +279,11 @@ pub fn strlsq_workspace(n_rows: usize, n_cols: usize) -> usize {
 /// The workspace that [`strlsq_qr`] needs, in numbers; 0 also where the sizes are beyond the limits, which it refuses.
 pub fn strlsq_qr_workspace(n_rows: usize, n_cols: usize) -> usize {
     raw::dapmotar_strlsq_qr_workspace(n_rows, n_cols)
+}
+
+/// The workspace that [`strlsq_marquardt`] needs, in numbers; 0 also where the sizes are beyond the limits, which it refuses.
+pub fn strlsq_marquardt_workspace(n_rows: usize, n_cols: usize) -> usize {
+    raw::dapmotar_strlsq_marquardt_workspace(n_rows, n_cols)
 }
 
 /// The bench program's exchange: the answer to the frames in `input`, which stands at the head of `answer`; the bytes

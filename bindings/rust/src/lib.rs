@@ -1,7 +1,7 @@
 //! The fitting core of a calibration bench, proved in Rattle, called from Rust.
 //!
 //! Each call is a safe function over lent slices that gives a `Result`: a call never traps, on any lengths, sizes
-//! and bits, and a refusal has a number. [`oxieml`] holds drop-ins for oxieml's own two functions. [`raw`] is the C
+//! and bits, and a refusal has a number. [`oxieml`] holds drop-ins for oxieml's own functions. [`raw`] is the C
 //! interface itself.
 //!
 //! ```

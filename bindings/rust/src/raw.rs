@@ -18,8 +18,8 @@ macro_rules! alike {
 }
 
 alike! {
-    /// Either fit.
-    Fit: dapmotar_strlsq dapmotar_strlsq_qr: (
+    /// Any of the fits.
+    Fit: dapmotar_strlsq dapmotar_strlsq_qr dapmotar_strlsq_marquardt: (
         theta: *const f64,
         theta_len: usize,
         n_rows: usize,
@@ -49,12 +49,9 @@ alike! {
     ) -> u64
 }
 
-unsafe extern "C" {
-    pub safe fn dapmotar_sqrt(x: f64) -> f64;
-
-    pub safe fn dapmotar_abs(x: f64) -> f64;
-
-    pub fn dapmotar_jtj(
+alike! {
+    /// The pair sums, with either damping.
+    Jtj: dapmotar_jtj dapmotar_jtj_marquardt: (
         jac: *const f64,
         jac_len: usize,
         n_rows: usize,
@@ -62,7 +59,13 @@ unsafe extern "C" {
         lambda: f64,
         out: *mut f64,
         out_len: usize,
-    ) -> u64;
+    ) -> u64
+}
+
+unsafe extern "C" {
+    pub safe fn dapmotar_sqrt(x: f64) -> f64;
+
+    pub safe fn dapmotar_abs(x: f64) -> f64;
 
     pub fn dapmotar_jtr(
         jac: *const f64,
@@ -81,6 +84,17 @@ unsafe extern "C" {
         b: *mut f64,
         b_len: usize,
         n: usize,
+        workspace: *mut f64,
+        workspace_len: usize,
+        column: *mut [u64; 1],
+    ) -> u64;
+
+    pub fn dapmotar_invert_spd(
+        a: *const f64,
+        a_len: usize,
+        n: usize,
+        out: *mut f64,
+        out_len: usize,
         workspace: *mut f64,
         workspace_len: usize,
         column: *mut [u64; 1],
@@ -116,6 +130,8 @@ unsafe extern "C" {
     pub safe fn dapmotar_strlsq_workspace(n_rows: usize, n_cols: usize) -> usize;
 
     pub safe fn dapmotar_strlsq_qr_workspace(n_rows: usize, n_cols: usize) -> usize;
+
+    pub safe fn dapmotar_strlsq_marquardt_workspace(n_rows: usize, n_cols: usize) -> usize;
 
     pub fn dapmotar_respond(input: *const u8, input_len: usize, answer: *mut [u8; ANSWER])
     -> usize;

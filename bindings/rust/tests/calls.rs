@@ -36,10 +36,25 @@ fn builders() {
     let jac = [1.0, 2.0, 3.0, 4.0];
     assert_eq!(jtj(&jac, 2, 2, 0.5, &mut sums), Ok(()));
     assert_eq!(sums, [10.5, 14.0, 14.0, 20.5]);
+    assert_eq!(jtj_marquardt(&jac, 2, 2, 0.5, &mut sums), Ok(()));
+    assert_eq!(sums, [15.0, 14.0, 14.0, 30.0]);
+    // sums just below 2^-52 and exactly there
+    let small = [
+        f64::from_bits(0x3e4f_ffff_ffff_ffff),
+        0.0,
+        0.0,
+        2f64.powi(-26),
+    ];
+    assert_eq!(jtj_marquardt(&small, 2, 2, 4.0, &mut sums), Ok(()));
+    assert_eq!(sums, [4.0, 0.0, 0.0, 5.0 * f64::EPSILON]);
     assert_eq!(jtr(&jac, &[1.0, -1.0], 2, 2, &mut products), Ok(()));
     assert_eq!(products, [-2.0, -2.0]);
     assert_eq!(jtj(&jac, 2, 65, 0.5, &mut sums), Err(Refusal::Columns));
     assert_eq!(jtj(&jac, 4097, 2, 0.5, &mut sums), Err(Refusal::Rows));
+    assert_eq!(
+        jtj_marquardt(&jac, 3, 2, 0.5, &mut sums),
+        Err(Refusal::Matrix)
+    );
     assert_eq!(
         jtr(&jac, &[1.0], 2, 2, &mut products),
         Err(Refusal::RightHandSide)
@@ -100,6 +115,47 @@ fn square_solvers() {
 }
 
 #[test]
+fn inverse() {
+    // the two numbers off the diagonal differ in their last digit: a column that is stored as a row shows
+    let (mut out, mut workspace) = ([9.0; 4], [7.0; 7]);
+    assert_eq!(
+        invert_spd(&[2.0, 1.0, 1.0, 2.0], 2, &mut out, &mut workspace),
+        Ok(())
+    );
+    assert_eq!(
+        out.map(f64::to_bits),
+        [
+            0x3fe5_5555_5555_5554,
+            0xbfd5_5555_5555_5556,
+            0xbfd5_5555_5555_5555,
+            0x3fe5_5555_5555_5557
+        ]
+    );
+    assert_eq!(workspace, [0.0, 0.0, 0.0, 0.0, 0.0, 0.0, 7.0]);
+
+    // 8 at the second column leaves all of the output, and clears the workspace
+    let (mut out, mut workspace) = ([9.0; 4], [7.0; 7]);
+    let indefinite = [4.0, 2.0, 2.0, -1.0];
+    assert_eq!(
+        invert_spd(&indefinite, 2, &mut out, &mut workspace),
+        Err(Refusal::Cholesky(1))
+    );
+    assert_eq!(out, [9.0; 4]);
+    assert_eq!(workspace, [0.0, 0.0, 0.0, 0.0, 0.0, 0.0, 7.0]);
+
+    let refused = |n, out: usize, room: usize| {
+        let (mut out, mut workspace) = (vec![9.0; out], vec![7.0; room]);
+        let answer = invert_spd(&indefinite, n, &mut out, &mut workspace);
+        assert!(out.iter().all(|&x| x == 9.0) && workspace.iter().all(|&x| x == 7.0));
+        answer
+    };
+    assert_eq!(refused(65, 3, 5), Err(Refusal::Columns));
+    assert_eq!(refused(1, 3, 5), Err(Refusal::Matrix));
+    assert_eq!(refused(2, 3, 5), Err(Refusal::Output));
+    assert_eq!(refused(2, 4, 5), Err(Refusal::Workspace));
+}
+
+#[test]
 fn householder() {
     let (mut data, mut betas, mut workspace) = ([9.0; 2], [9.0], [9.0; 6]);
     let column = [-0.0, 1.0];
@@ -156,6 +212,31 @@ fn fits() {
     );
     assert_eq!(coeffs, [3.0, 0.0]);
 
+    // by lambda alone the first port would fall
+    let mut workspace = vec![9.0; strlsq_marquardt_workspace(2, 2)];
+    let damped = Setup {
+        lambda: 3.0,
+        ..setup
+    };
+    assert_eq!(
+        strlsq_marquardt(
+            &[0.5, 0.0, 0.0, 2.0],
+            2,
+            2,
+            &[1.0, 8.0],
+            damped,
+            &mut coeffs,
+            &mut workspace
+        ),
+        Ok(Report {
+            stop: Stop::Settled,
+            refits: 1,
+            kept: 3,
+        })
+    );
+    assert_eq!(coeffs, [0.5, 1.0]);
+    assert_eq!(workspace, [0.0; 16]);
+
     // the refit of port 1 alone is refused at its place 0: the stop names the term
     let refused = Setup {
         lambda: -1.0,
@@ -188,6 +269,7 @@ fn fits() {
 fn empty_slices() {
     assert_eq!(jtj(&[], 0, 0, 1.0, &mut []), Ok(()));
     assert_eq!(solve_lu(&mut [], &mut [], 0), Ok(()));
+    assert_eq!(invert_spd(&[], 0, &mut [], &mut []), Ok(()));
     let setup = Setup {
         threshold: 0.5,
         lambda: 0.0,

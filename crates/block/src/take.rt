@@ -4,11 +4,13 @@ ghost use Prim.Native.Nat.{_+_, _*_, _≤_, _<_};
 ghost use lib.ListN.{length, set};
 ghost use Rattle.steps.specs.Table.{table};
 ghost use Rattle.places.specs.Columns.{Names};
-ghost use Rattle.sums.specs.Products.{ridge, jtj-matrix, jtr-column};
+ghost use Rattle.sums.specs.Products.{jtj-matrix, jtr-column};
+ghost use Rattle.sums.specs.Inner.{damps};
 ghost use Rattle.sums.specs.Kept.{kept-size};
 ghost use Rattle.block.specs.Listed.{Room, RowTaken, Taken, listed-pair, listed-product};
 use places::inner::at_term;
 use places::inner::term_of;
+use sums::inner::Damping;
 use sums::inner::damp;
 use support::Col;
 
@@ -63,14 +65,14 @@ fn block_rows(ws: &mut [f64], n_cols: usize, terms: &[usize], k: usize)
 }
 
 // The block, damped.
-pub fn take_block(ws: &mut [f64], n_cols: usize, terms: &[usize], k: usize, lambda: f64)
+pub fn take_block(ws: &mut [f64], n_cols: usize, terms: &[usize], k: usize, damping: Damping)
     requires { ⌜ Room «n_cols» k (now terms) (now ws) ⌝ }
-    ensures { λ _. ⌜ Taken «n_cols» k (jtj-matrix (ridge lambda) k (listed-pair «n_cols» (now (terms .entry)) (now (ws .entry)))) (now (ws .entry)) (now (ws .exit)) ⌝ }
+    ensures { λ _. ⌜ Taken «n_cols» k (jtj-matrix (damps damping) k (listed-pair «n_cols» (now (terms .entry)) (now (ws .entry)))) (now (ws .entry)) (now (ws .exit)) ⌝ }
 {
     let a = n_cols * n_cols + n_cols;
     let e = a + k * k;
     block_rows(ws, n_cols, terms, k);
-    damp(&mut ws[a..e], k, lambda);
+    damp(&mut ws[a..e], k, damping);
 }
 
 // The right-hand side: at each reduced place the target product of its term.

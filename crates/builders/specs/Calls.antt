@@ -1,4 +1,4 @@
--- What `jtj` and `jtr` answer and leave. Assumes nothing.
+-- What `jtj`, `jtj_marquardt` and `jtr` answer and leave. Assumes nothing.
 use mathlib.Core.Path.{_≡_}
 use mathlib.Core.Bool.{not}
 use mathlib.Core.List.{List}
@@ -11,7 +11,7 @@ use Rattle.refusal.specs.Answers.{refuse-if, if-done, and-then}
 use Rattle.refusal.specs.declared.Answer.{Answer}
 use Rattle.refusal.specs.declared.Answer.the-variants.{Done}
 use Rattle.refusal.specs.declared.Refusal.the-variants.{ManyColumns, ManyRows, MatrixLength, TargetLength, OutputLength}
-pub use Rattle.sums.specs.Products.{ridge}
+pub use Rattle.sums.specs.Products.{ridge, marquardt}
 use Rattle.sums.specs.Products.{gram, moment, jtj-matrix, jtr-column}
 
 -- the first refusal that applies to a matrix of this length
@@ -27,7 +27,7 @@ unfoldable pub jtr-sizes : ℕ → ℕ → ℕ → ℕ → ℕ → Answer
 jtr-sizes rows n matrix target out =
     and-then (matrix-sizes rows n matrix) (refuse-if (not (eqb target rows)) TargetLength (refuse-if (not (eqb out n)) OutputLength Done))
 
--- `jtj`: the pair sums of the columns, damped
+-- `jtj`, damped by `ridge`, and `jtj_marquardt`: the pair sums of the columns, damped
 pub record JtjCall (damp : Float → Float) (jac : List Float) (rows n : ℕ) (out out' : List Float) (r : Answer) : Type 0 where
   pub answer : r ≡ jtj-sizes rows n (length jac) (length out)
   pub matrix : out' ≡ if-done r (jtj-matrix damp n (gram (cell n jac) rows)) out

@@ -12,8 +12,8 @@ use Rattle.builders.specs.Calls.{JtjCall, JtrCall}
 use Rattle.builders.specs.Unique.{jtj-unique, jtr-unique}
 use Rattle.decomp.specs.Calls.{QrCall}
 use Rattle.decomp.specs.Unique.{qr-unique}
-use Rattle.solve.specs.Calls.{CholeskyCall, LuCall, NormalCall, LeastCall}
-use Rattle.solve.specs.Unique.{cholesky-unique, lu-unique, normal-unique, least-unique}
+use Rattle.solve.specs.Calls.{CholeskyCall, LuCall, NormalCall, InvertCall, LeastCall}
+use Rattle.solve.specs.Unique.{cholesky-unique, lu-unique, normal-unique, invert-unique, least-unique}
 use Rattle.rule.specs.Calls.{FitCall}
 use Rattle.rule.specs.Codes.{fitted-number}
 use Rattle.rule.specs.Unique.{fit-unique}
@@ -69,6 +69,13 @@ module _ (p p' p'' : List ℕ) (r s : ℕ) where
       → ((r ≡ s) × (p' ≡ p'')) × (b' ≡ b'') × (w' ≡ w'')
   export-normal-unique a b n w b' w' b'' w'' h k =
       let same = normal-unique a b n w b' w' b'' w'' _ _ (h .call .solve) (k .call .solve) in
+      (column-same h k (same .0), same .1, same .2)
+
+  pub export-invert-unique : (a : List Float) (n : ℕ) (o w o' w' o'' w'' : List Float)
+      → Numbered answer-number (WithColumn (InvertCall a n o o' w w') p p') r → Numbered answer-number (WithColumn (InvertCall a n o o'' w w'') p p'') s
+      → ((r ≡ s) × (p' ≡ p'')) × (o' ≡ o'') × (w' ≡ w'')
+  export-invert-unique a n o w o' w' o'' w'' h k =
+      let same = invert-unique a n o w o' w' o'' w'' _ _ (h .call .solve) (k .call .solve) in
       (column-same h k (same .0), same .1, same .2)
 
   pub export-least-unique : (a b : List Float) (m n : ℕ) (o w o' w' o'' w'' : List Float)

@@ -1,4 +1,4 @@
-// Both fits, and the workspace that each needs.
+// The three fits, and the workspace that each needs.
 ghost use mathlib.Core.Path.{_≡_};
 ghost use Rattle.capi.specs.Numbered.{Numbered, Reported, report-numbers, workspace};
 ghost use Rattle.rule.specs.Tasks.{setup-of, task-of};
@@ -82,6 +82,33 @@ pub extern "C" fn dapmotar_strlsq_qr(
     fitted_number(answer)
 }
 
+// Each solve by the normal equations again, damped in proportion to their diagonal.
+#[no_mangle]
+pub extern "C" fn dapmotar_strlsq_marquardt(
+    theta: &[f64],
+    n_rows: usize,
+    n_cols: usize,
+    target: &[f64],
+    threshold: f64,
+    lambda: f64,
+    max_iter: usize,
+    coeffs: &mut [f64],
+    workspace: &mut [f64],
+    report: &mut [u64; 4],
+) -> u64
+    ensures { λ r. ⌜ Numbered fitted-number (Reported (FitCall (task-of Solver.Marquardt «n_rows» «n_cols» (setup-of threshold lambda «max_iter»))
+        (now (theta .entry)) (now (target .entry)) (now (coeffs .entry)) (now (coeffs .exit)) (now (workspace .entry)) (now (workspace .exit))) (now (report .entry)) (now (report .exit))) r ⌝ }
+{
+    let setup = Setup {
+        threshold: threshold,
+        lambda: lambda,
+        max_iter: max_iter,
+    };
+    let answer = strlsq::strlsq_marquardt(theta, n_rows, n_cols, target, setup, coeffs, workspace);
+    put_report(answer, report);
+    fitted_number(answer)
+}
+
 // The workspace that a fit needs, in numbers; 0 where the sizes are beyond the limits.
 fn workspace_of(solver: Solver, n_rows: usize, n_cols: usize) -> usize
     ensures { λ r. ⌜ r ≡ workspace solver «n_rows» «n_cols» ⌝ }
@@ -109,4 +136,12 @@ pub extern "C" fn dapmotar_strlsq_qr_workspace(n_rows: usize, n_cols: usize) -> 
     ensures { λ r. ⌜ r ≡ workspace Solver.Qr «n_rows» «n_cols» ⌝ }
 {
     workspace_of(Solver::Qr, n_rows, n_cols)
+}
+
+// The workspace of `dapmotar_strlsq_marquardt`.
+#[no_mangle]
+pub extern "C" fn dapmotar_strlsq_marquardt_workspace(n_rows: usize, n_cols: usize) -> usize
+    ensures { λ r. ⌜ r ≡ workspace Solver.Marquardt «n_rows» «n_cols» ⌝ }
+{
+    workspace_of(Solver::Marquardt, n_rows, n_cols)
 }

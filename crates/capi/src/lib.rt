@@ -3,7 +3,7 @@ mod fits;
 mod solvers;
 
 ghost use mathlib.Core.Path.{_≡_};
-ghost use Rattle.builders.specs.Calls.{JtjCall, JtrCall, ridge};
+ghost use Rattle.builders.specs.Calls.{JtjCall, JtrCall, marquardt, ridge};
 ghost use Rattle.capi.specs.Numbered.{Numbered};
 ghost use Rattle.float64.specs.Root.{absOf};
 ghost use Rattle.float64.specs.Rule.{SqrtCall};
@@ -39,6 +39,20 @@ pub extern "C" fn dapmotar_jtj(
     ensures { λ r. ⌜ Numbered answer-number (JtjCall (ridge lambda) (now (jac .entry)) «n_rows» «n_params» (now (out .entry)) (now (out .exit))) r ⌝ }
 {
     answer_number(builders::jtj(jac, n_rows, n_params, lambda, out))
+}
+
+// The same sums, each diagonal number damped in proportion: by lambda times it, or by lambda alone where its magnitude is below 2^-52.
+#[no_mangle]
+pub extern "C" fn dapmotar_jtj_marquardt(
+    jac: &[f64],
+    n_rows: usize,
+    n_params: usize,
+    lambda: f64,
+    out: &mut [f64],
+) -> u64
+    ensures { λ r. ⌜ Numbered answer-number (JtjCall (marquardt lambda) (now (jac .entry)) «n_rows» «n_params» (now (out .entry)) (now (out .exit))) r ⌝ }
+{
+    answer_number(builders::jtj_marquardt(jac, n_rows, n_params, lambda, out))
 }
 
 // The products of each column of `jac` and the numbers `r`, summed over the rows.

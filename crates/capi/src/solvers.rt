@@ -3,7 +3,7 @@ ghost use mathlib.Core.Path.{_≡_};
 ghost use Rattle.capi.specs.Numbered.{Numbered, WithColumn, column-numbers};
 ghost use Rattle.decomp.specs.Calls.{QrCall};
 ghost use Rattle.refusal.specs.Answers.{answer-number, answer-column};
-ghost use Rattle.solve.specs.Calls.{CholeskyCall, LeastCall, LuCall, NormalCall};
+ghost use Rattle.solve.specs.Calls.{CholeskyCall, InvertCall, LeastCall, LuCall, NormalCall};
 use refusal::Answer;
 use refusal::Column;
 use refusal::answer_column;
@@ -60,6 +60,22 @@ pub extern "C" fn dapmotar_solve_normal_equations(
     ensures { λ r. ⌜ Numbered answer-number (WithColumn (NormalCall (now (a .entry)) (now (b .entry)) n (now (b .exit)) (now (workspace .entry)) (now (workspace .exit))) (now (column .entry)) (now (column .exit))) r ⌝ }
 {
     let answer = solve::solve_normal_equations(a, b, n, workspace);
+    put_column(answer, column);
+    answer_number(answer)
+}
+
+// The inverse of a positive definite matrix by Cholesky, into `out`: a stays, and the workspace is cleared.
+#[no_mangle]
+pub extern "C" fn dapmotar_invert_spd(
+    a: &[f64],
+    n: usize,
+    out: &mut [f64],
+    workspace: &mut [f64],
+    column: &mut [u64; 1],
+) -> u64
+    ensures { λ r. ⌜ Numbered answer-number (WithColumn (InvertCall (now (a .entry)) n (now (out .entry)) (now (out .exit)) (now (workspace .entry)) (now (workspace .exit))) (now (column .entry)) (now (column .exit))) r ⌝ }
+{
+    let answer = solve::invert_spd(a, n, out, workspace);
     put_column(answer, column);
     answer_number(answer)
 }

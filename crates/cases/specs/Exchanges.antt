@@ -1,4 +1,4 @@
--- Whole exchanges of the bench program, by computing: document 01's F1, a fit with no rows, and one that names its port. Assumes nothing.
+-- Whole exchanges of the bench program, by computing: document 01's F1, a fit with no rows, one that names its port, and one by the third solver. Assumes nothing.
 use mathlib.Core.Path.{_≡_, refl}
 use Rattle.frames.specs.Exchange.{answer-of}
 use Rattle.frames.specs.Examples.{text, framed}
@@ -19,3 +19,9 @@ pub G5-exchange : answer-of (text "01000202000a3fe0000000000000bff0000000000000\
     ≡ text "030001000000000000000001\n0000000000000000\n0000000000000000\n"
 unfolding fits framed
 G5-exchange = refl
+
+-- G10 by solver 03: damped by lambda alone, as by solver 01, port 0 would fall
+pub G10-exchange : answer-of (text "03000202000a3fe00000000000004008000000000000\n3ff00000000000003fe00000000000000000000000000000\n402000000000000000000000000000004000000000000000\n")
+    ≡ text "0400010000000000000003ff\n3fe0000000000000\n3ff0000000000000\n"
+unfolding fits framed
+G10-exchange = refl

@@ -34,13 +34,21 @@ chol-column n bound j a =
 unfoldable pub chol-factor : ℕ → List Float → Way (List Float)
 chol-factor n a = way (chol-column n (times 1e-14 (scale n a))) 0 n a
 
+-- number i of forward substitution: b(i) less the products of row i before the diagonal, over the diagonal
+unfoldable pub forward-at : ℕ → List Float → ℕ → List Float → Float
+forward-at n l i b = over (less-sum (at b i) 0 i (λ k. times (cell n l i k) (at b k))) (cell n l i i)
+
+-- number i of back substitution, which reads the factor by columns
+unfoldable pub back-at : ℕ → List Float → ℕ → List Float → Float
+back-at n l i b = over (less-sum (at b i) (i + 1) n (λ k. times (cell n l k i) (at b k))) (cell n l i i)
+
 -- forward substitution, b overwritten
 unfoldable pub chol-forward : ℕ → List Float → List Float → List Float
-chol-forward n l b = loop 0 n (λ i x. set x i (over (less-sum (at x i) 0 i (λ k. times (cell n l i k) (at x k))) (cell n l i i))) b
+chol-forward n l b = loop 0 n (λ i x. set x i (forward-at n l i x)) b
 
--- then back substitution, which reads the factor by columns
+-- then back substitution
 unfoldable pub chol-back : ℕ → List Float → List Float → List Float
-chol-back n l b = down-from n (λ i x. set x i (over (less-sum (at x i) (i + 1) n (λ k. times (cell n l k i) (at x k))) (cell n l i i))) b
+chol-back n l b = down-from n (λ i x. set x i (back-at n l i x)) b
 
 -- both, with what the factor came to: a refusal leaves b unchanged
 unfoldable pub chol-end : ℕ → List Float → Way (List Float) → Way (List Float × List Float)

@@ -65,7 +65,7 @@ fn chol_column(a: &mut [f64], n: usize, bound: f64, j: usize) -> Solved
 }
 
 // The factor, on and below the diagonal.
-fn cholesky_factor(a: &mut [f64], n: usize) -> Solved
+pub fn cholesky_factor(a: &mut [f64], n: usize) -> Solved
     requires { ⌜ length (now a) ≡ n * n ⌝ }
     ensures { λ r. ⌜ told r (now (a .exit)) ≡ chol-factor n (now (a .entry)) ⌝ }
 {

@@ -10,7 +10,7 @@ use Rattle.hex.specs.Put.{Written}
 use Rattle.rule.specs.Rule.{Fit}
 use Rattle.rule.specs.Sizes.{fit-need, Limited, Sized, Ready}
 use Rattle.rule.specs.declared.Solver.{Solver}
-use Rattle.rule.specs.declared.Solver.the-variants.{Normal, Qr}
+use Rattle.rule.specs.declared.Solver.the-variants.{Normal, Qr, Marquardt}
 use Rattle.rule.specs.declared.Task.{Task}
 use Rattle.rule.specs.declared.Report.{Report}
 use Rattle.strlsq.specs.Reports.{Reports}
@@ -23,6 +23,7 @@ need-most : (solver : Solver) (rows cols : ℕ) → rows ≤ most-rows → cols 
 unfolding fit-need
 need-most Normal rows cols h k = omega (arith, mul-le-mul k k)
 need-most Qr rows cols h k = let s : rows + cols ≤ most-rows + most-cols = omega arith in omega (arith, mul-le-mul s k)
+need-most Marquardt rows cols h k = omega (arith, mul-le-mul k k)
 
 pub ready-within : {task : Task} {theta target cs ws : List Float} → Limited most-cols most-rows task
     → Sized task theta target → length cs ≡ task .cols → length ws ≡ most-space → Ready task theta target cs ws

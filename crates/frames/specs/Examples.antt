@@ -48,9 +48,9 @@ pub uppercase : answer-of (text "01000000000A3fe00000000000000000000000000000\n"
 unfolding framed
 uppercase = refl
 
-pub solver-03 : answer-of (text "03ffffffffff3fe00000000000000000000000000000\n") ≡ text "ff0b\n"
+pub solver-04 : answer-of (text "04ffffffffff3fe00000000000000000000000000000\n") ≡ text "ff0b\n"
 unfolding framed
-solver-03 = refl
+solver-04 = refl
 
 -- columns past their limit come first, then rows, then max_iter, all before a row that is missing
 pub many-columns : answer-of (text "01ffffffffff3fe00000000000000000000000000000\n") ≡ text "ff01\n"
@@ -68,6 +68,11 @@ many-rounds = refl
 pub row-missing : answer-of (text "0100801003e83fe00000000000000000000000000000\n") ≡ text "ff0b\n"
 unfolding framed
 row-missing = refl
+
+-- and so by the third solver
+pub solver-03 : answer-of (text "03ffffffffff3fe00000000000000000000000000000\n") ≡ text "ff01\n"
+unfolding framed
+solver-03 = refl
 
 -- a row with no newline at the end, a row short by a digit, and a byte after the last frame
 pub row-end : answer-of (text "01000100000a3fe00000000000000000000000000000\n3ff0000000000000") ≡ text "ff0b\n"

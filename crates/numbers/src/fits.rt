@@ -68,6 +68,15 @@ fn fit_row(
             &mut coeffs[0..n_cols],
             &mut workspace[0..room],
         ),
+        Solver::Marquardt => strlsq::strlsq_marquardt(
+            &theta[0..n_cols],
+            1,
+            n_cols,
+            &target,
+            setup,
+            &mut coeffs[0..n_cols],
+            &mut workspace[0..room],
+        ),
     }
 }
 
@@ -108,24 +117,27 @@ fn refused(solver: Solver, n_cols: usize, max_iter: usize, room: usize) -> u64
     rule::fitted_number(fit_ones(solver, n_cols, max_iter, room))
 }
 
-// The sizes: what both fits take, and one more. 64 columns need 12,416 numbers at any row count, by QR 8,707 of one row.
+// The sizes: what the fits take, and one more. 64 columns need 12,416 numbers at any row count, by QR 8,707 of one row.
 fn sizes() {
-    let normal = passes(Solver::Normal, 12416);
+    let normal = passes(Solver::Normal, 12416) && passes(Solver::Marquardt, 12416);
     say(
         b"64 columns, max_iter 1,000",
         normal && passes(Solver::Qr, 8707),
     );
-    let normal = refused(Solver::Normal, 65, 1000, 12805) == 1;
+    let normal = refused(Solver::Normal, 65, 1000, 12805) == 1
+        && refused(Solver::Marquardt, 65, 1000, 12805) == 1;
     say(
         b"65 columns",
         normal && refused(Solver::Qr, 65, 1000, 8973) == 1,
     );
-    let normal = refused(Solver::Normal, 64, 1001, 12416) == 3;
+    let normal = refused(Solver::Normal, 64, 1001, 12416) == 3
+        && refused(Solver::Marquardt, 64, 1001, 12416) == 3;
     say(
         b"max_iter 1,001",
         normal && refused(Solver::Qr, 64, 1001, 8707) == 3,
     );
-    let normal = refused(Solver::Normal, 64, 1000, 12415) == 7;
+    let normal = refused(Solver::Normal, 64, 1000, 12415) == 7
+        && refused(Solver::Marquardt, 64, 1000, 12415) == 7;
     say(
         b"a workspace one short",
         normal && refused(Solver::Qr, 64, 1000, 8706) == 7,

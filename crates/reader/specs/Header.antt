@@ -7,7 +7,7 @@ use lib.ListN.{length, getD}
 use Rattle.hex.specs.Hex.{all-hex, number-at, float, newline}
 use Rattle.rule.specs.Tasks.{setup-of, task-of}
 use Rattle.rule.specs.declared.Solver.{Solver}
-use Rattle.rule.specs.declared.Solver.the-variants.{Normal, Qr}
+use Rattle.rule.specs.declared.Solver.the-variants.{Normal, Qr, Marquardt}
 use Rattle.rule.specs.declared.Task.{Task}
 use Rattle.reader.specs.declared.inner.header.Head.{Head}
 use Rattle.reader.specs.declared.inner.header.Head.the-variants.{Good, Wrong}
@@ -27,9 +27,12 @@ header-formed s = leb header-frame (length s) && (all-hex s 0 header-digits && e
 unfoldable pub header : List ℕ → Solver → Task
 header s solver = task-of solver (number-at s 2 4) (number-at s 6 2) (setup-of (float s 12) (float s 28) (number-at s 8 4))
 
--- solver (2): 01 normal, 02 QR, else malformed
+-- solver (2): 01 normal, 02 QR, 03 normal damped in proportion, else malformed
 unfoldable pub head-of : List ℕ → Head
 head-of s =
     cond (header-formed s)
-    (cond (eqb (number-at s 0 2) 1) (Good (header s Normal)) (cond (eqb (number-at s 0 2) 2) (Good (header s Qr)) Wrong))
+    (cond (eqb (number-at s 0 2) 1) (Good (header s Normal))
+    (cond (eqb (number-at s 0 2) 2) (Good (header s Qr))
+    (cond (eqb (number-at s 0 2) 3) (Good (header s Marquardt))
+    Wrong)))
     Wrong

@@ -1,6 +1,5 @@
 -- What a fit keeps in its workspace, and a solve from it. Assumes nothing.
 use mathlib.Core.Path.{_≡_, _∙_}
-use mathlib.Core.Logic.{_≢_}
 use mathlib.Core.List.{List, _++_}
 use Prim.Native.Nat.{ℕ, _-_, _^_, _≤_, _<_}
 use native.Mathlib.Omega.{arith}
@@ -9,13 +8,16 @@ use lib.Seq.{length-take-le, take-take, take-at, take-append-le}
 use lib.Ieee.{Float}
 use Rattle.steps.specs.Num.{at, cell}
 use Rattle.steps.specs.Space.{withPart}
-use Rattle.sums.specs.Products.{gram, moment, ridge}
+use Rattle.sums.specs.Products.{gram, moment}
+use Rattle.sums.specs.Inner.{damps}
+use Rattle.sums.specs.declared.inner.Damping.{Damping}
 use Rattle.sums.specs.Kept.{kept-size, kept-sums}
-use Rattle.rule.specs.Fits.{problem, problem-of, matrix-of, solves}
+use Rattle.rule.specs.Fits.{problem, problem-of, matrix-of}
 use Rattle.rule.specs.Kept.{from-kept, from-head, kept-solves}
 use Rattle.rule.specs.declared.Task.{Task}
-use Rattle.rule.specs.declared.Solver.the-variants.{Normal, Qr}
+use Rattle.rule.specs.declared.Solver.the-variants.{Qr}
 use Rattle.refit.specs.Parts.{Kept}
+use Rattle.refit.proofs.Methods.{FromSums}
 
 -- a solve is lent the first e numbers of a workspace, and leaves x there
 module _ (n e : ℕ) (ws : List Float) (in-it : kept-size n ≤ e) (fits : e ≤ length ws) where
@@ -31,11 +33,8 @@ module _ (n e : ℕ) (ws : List Float) (in-it : kept-size n ≤ e) (fits : e ≤
       let room : kept-size n ≤ length x = omega (arith, long, length-take-le (e - 0) ws (omega arith)) in
       take-append-le (kept-size n) x (drop (e - 0) ws) room ∙ same ∙ lent
 
--- by the normal equations: what the first pass left is kept, and the solve from it is that of the support's columns
-module _ (task : Task) (theta target : List Float) (is : task .solver ≡ Normal) where
-  not-qr : task .solver ≢ Qr
-  not-qr e = let z : _≡_ {A = ℕ} 0 1 = cc in absurd (omega arith)
-
+-- what the first pass left is kept
+module _ (task : Task) (theta target : List Float) where
   pub kept-now : (sums rest : List Float) → length sums ≡ kept-size (task .cols)
       → sums ≡ kept-sums (task .cols) (gram (cell (task .cols) theta) (task .rows)) (moment (cell (task .cols) theta) (at target) (task .rows)) → Kept task theta target (sums ++ rest)
   unfolding matrix-of
@@ -44,11 +43,13 @@ module _ (task : Task) (theta target : List Float) (is : task .solver ≡ Normal
   pub kept-on : (ws ws' : List Float) → take (kept-size (task .cols)) ws' ≡ take (kept-size (task .cols)) ws → Kept task theta target ws → Kept task theta target ws'
   kept-on ws ws' e k = record { sums = λ not. e ∙ k .sums not }
 
-  pub kept-is : (ws : List Float) (w : ℕ) → Kept task theta target ws → w < 2 ^ task .cols
-      → from-kept (ridge (task .setup .lambda)) (task .cols) ws w ≡ problem-of task theta target .solve w
-  unfolding problem solves matrix-of
-  kept-is ws w k b = rw is (kept-solves (ridge (task .setup .lambda)) (task .cols) (matrix-of task theta) (at target) (task .rows) ws w b (k .sums not-qr))
+  -- and a solve from it, by a solver that solves so, is that of the support's columns
+  pub kept-is : {d : Damping} → FromSums (task .solver) (task .setup .lambda) d → (ws : List Float) (w : ℕ) → Kept task theta target ws → w < 2 ^ task .cols
+      → from-kept (damps d) (task .cols) ws w ≡ problem-of task theta target .solve w
+  unfolding problem matrix-of
+  kept-is {d} from ws w k b =
+      rw (from .solve (at target) (task .rows)) (kept-solves (damps d) (task .cols) (matrix-of task theta) (at target) (task .rows) ws w b (k .sums (from .not-qr)))
 
--- by least squares nothing is kept
-pub none-kept : (task : Task) (theta target ws : List Float) → task .solver ≡ Qr → Kept task theta target ws
-none-kept task theta target ws is = record { sums = λ not. absurd (not is) }
+  -- by least squares nothing is kept
+  pub none-kept : (ws : List Float) → task .solver ≡ Qr → Kept task theta target ws
+  none-kept ws is = record { sums = λ not. absurd (not is) }

@@ -8,11 +8,13 @@ use lib.Count.{ones-le}
 use lib.Ieee.{Float}
 use Rattle.places.specs.Columns.{Within}
 use Rattle.sums.specs.Kept.{kept-size}
+use Rattle.sums.specs.declared.inner.Damping.{Damping}
 use Rattle.rule.specs.Sizes.{fit-need, task-need}
 use Rattle.rule.specs.declared.Task.{Task}
 use Rattle.rule.specs.declared.Solver.{Solver}
-use Rattle.rule.specs.declared.Solver.the-variants.{Normal, Qr}
+use Rattle.rule.specs.declared.Solver.the-variants.{Qr}
 use Rattle.refit.specs.Parts.{Counted}
+use Rattle.refit.proofs.Methods.{FromSums}
 
 -- the numbers of the matrix that least squares solves, and with its right-hand side
 abbrev pub cells : Task → ℕ → ℕ
@@ -22,9 +24,8 @@ abbrev pub both : Task → ℕ → ℕ
 both task k = cells task k + (task .rows + k)
 
 -- a fit's workspace by the normal equations has room for the kept sums
-pub sums-fit : (task : Task) {n : ℕ} → task .solver ≡ Normal → task-need task ≤ n → kept-size (task .cols) ≤ n
-unfolding fit-need
-sums-fit task is room = let need = ap (λ (s : Solver). fit-need s (task .rows) (task .cols)) is in omega (arith, need)
+pub sums-fit : (task : Task) {n : ℕ} {d : Damping} → FromSums (task .solver) (task .setup .lambda) d → task-need task ≤ n → kept-size (task .cols) ≤ n
+sums-fit task from room = omega (arith, from .need (task .rows) (task .cols))
 
 module _ {task : Task} {theta target : List Float} {w k : ℕ} (s : Counted task theta target w k) where
   pub few : k ≤ task .cols
@@ -43,11 +44,8 @@ module _ {task : Task} {theta target : List Float} {w k : ℕ} (s : Counted task
   -- what a fit's workspace of n numbers has room for
   module _ {n : ℕ} (room : task-need task ≤ n) where
     -- the kept sums and a block of them
-    pub block-fits : task .solver ≡ Normal → kept-size (task .cols) + k * k ≤ n
-    unfolding fit-need
-    block-fits is =
-        let need = ap (λ (s : Solver). fit-need s (task .rows) (task .cols)) is in
-        omega (arith, need, mul-le-mul few few)
+    pub block-fits : {d : Damping} → FromSums (task .solver) (task .setup .lambda) d → kept-size (task .cols) + k * k ≤ n
+    block-fits from = omega (arith, from .need (task .rows) (task .cols), mul-le-mul few few)
 
     -- the matrix of least squares and its right-hand side
     pub least-fits : task .solver ≡ Qr → both task k ≤ n

@@ -1,3 +1,4 @@
 -- What a solve over a support promises. Assumes nothing.
 pub mod Parts
+pub mod Method
 pub mod Placed

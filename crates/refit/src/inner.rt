@@ -1,6 +1,7 @@
-// The solve over a support's columns, by either solver. Each function may require what the public call of a fit has tested.
+// The solve over a support's columns, by any solver. Each function may require what the public call of a fit has tested.
 pub mod by_least;
 pub mod by_normal;
+pub mod method;
 
 ghost use mathlib.Core.Path.{_≡_};
 ghost use Prim.Native.Nat.{_^_, _≤_, _<_};
@@ -10,10 +11,11 @@ ghost use Rattle.rule.specs.Sizes.{Sized, Ready, task-need};
 ghost use Rattle.refit.specs.Parts.{Counted, Kept, OverSupport, gave};
 use crate::inner::by_least::solve_qr;
 use crate::inner::by_normal::solve_normal;
+use crate::inner::method::Method;
+use crate::inner::method::method_of;
 use coeffs::inner::scatter;
 use keep::inner::keep_sums;
 use refusal::Solved;
-use rule::Solver;
 use rule::Task;
 use support::Col;
 use support::Support;
@@ -25,13 +27,14 @@ pub fn keep(task: Task, theta: &[f64], target: &[f64], ws: &mut [f64])
     ensures { λ _. ⌜ Kept task (now (theta .entry)) (now (target .entry)) (now (ws .exit)) ⌝ }
 {
     let solver = task.solver;
-    match solver {
-        Solver::Normal => {
+    let setup = task.setup;
+    match method_of(solver, setup.lambda) {
+        Method::Sums(_) => {
             let n_cols = task.cols;
             let h = n_cols * n_cols + n_cols;
             keep_sums(theta, target, task.rows, n_cols, &mut ws[0..h]);
         }
-        Solver::Qr => {}
+        Method::Rows => {}
     }
 }
 
@@ -49,9 +52,10 @@ fn solve_columns(
         × Kept task (now (theta .entry)) (now (target .entry)) (now (ws .exit)) ⌝ }
 {
     let solver = task.solver;
-    match solver {
-        Solver::Normal => solve_normal(task, support, b, ws),
-        Solver::Qr => solve_qr(task, theta, target, support, b, ws),
+    let setup = task.setup;
+    match method_of(solver, setup.lambda) {
+        Method::Sums(damping) => solve_normal(task, damping, support, b, ws),
+        Method::Rows => solve_qr(task, theta, target, support, b, ws),
     }
 }
 

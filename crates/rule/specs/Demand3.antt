@@ -1,4 +1,4 @@
--- Demand 3, over calls of `strlsq` and of `strlsq_qr`, whose contract is `FitCall`: what two calls on the same data give, and how far one goes.
+-- Demand 3, over calls of `strlsq`, `strlsq_qr` and `strlsq_marquardt`, whose contract is `FitCall`: what two calls on the same data give, and how far one goes.
 -- A call fits if it answers a report, and it does so exactly where no refusal applies. Assumes nothing.
 use mathlib.Core.Path.{_≡_, sym, ap, _∙_}
 use mathlib.Core.Logic.{_≢_}

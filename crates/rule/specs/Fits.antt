@@ -1,4 +1,4 @@
--- The two fits: the rule at two solves. Assumes nothing.
+-- The three fits: the rule at three solves. Assumes nothing.
 use Prim.Native.Nat.{ℕ, _+_, _-_}
 use mathlib.Core.Bool.{Bool, cond}
 use mathlib.Core.List.{List}
@@ -10,13 +10,13 @@ use Rattle.steps.specs.Table.{tab, table}
 use Rattle.float64.specs.Root.{rootOf, absOf}
 use Rattle.refusal.specs.Answers.{Solution, solution}
 use Rattle.places.specs.Columns.{columns}
-use Rattle.sums.specs.Products.{gram, moment, ridge, jtj-matrix, jtr-column}
+use Rattle.sums.specs.Products.{gram, moment, ridge, marquardt, jtj-matrix, jtr-column}
 use Rattle.normal.specs.Normal.{normal}
 use Rattle.least.specs.Least.{least}
 use Rattle.rule.specs.Rule.{Problem, Fit, fit}
 use Rattle.rule.specs.declared.Setup.{Setup}
 use Rattle.rule.specs.declared.Solver.{Solver}
-use Rattle.rule.specs.declared.Solver.the-variants.{Normal, Qr}
+use Rattle.rule.specs.declared.Solver.the-variants.{Normal, Qr, Marquardt}
 use Rattle.rule.specs.declared.Task.{Task}
 
 -- the support is every term with |c| at least the threshold (NaN never is); the term number j is not looked at yet: a later order holds terms
@@ -32,11 +32,10 @@ abbrev pub Solves : Type 0
 Solves = ℕ → Entry → Solution
 
 -- by the normal equations of c columns, from the pair sums g and the target products m, however these were made (from the rows, or kept) and are damped
--- (by `ridge` today; a later order damps in proportion)
 unfoldable pub by-sums : (Float → Float) → ℕ → Entry → (ℕ → Float) → Solution
 by-sums damp c g m = solution (normal c (jtj-matrix damp c g) (jtr-column c m))
 
--- `strlsq`: by normal equations
+-- `strlsq` and `strlsq_marquardt`: by normal equations, each with its damping
 unfoldable pub by-normal : (Float → Float) → (ℕ → Float) → ℕ → Solves
 by-normal damp t rows c e = by-sums damp c (gram e rows) (moment e t rows)
 
@@ -56,6 +55,7 @@ by-least lambda t rows c e = least (rows + c) c (table (rows + c) c (augmented r
 unfoldable pub solves : Solver → Float → (ℕ → Float) → ℕ → Solves
 solves Normal lambda t rows = by-normal (ridge lambda) t rows
 solves Qr lambda t rows = by-least lambda t rows
+solves Marquardt lambda t rows = by-normal (marquardt lambda) t rows
 
 -- the problem of a fit: all columns first, then the supported columns in rising order
 unfoldable pub problem : Task → Solves → Entry → Problem

@@ -1,4 +1,4 @@
--- The fit rule, the two fits, and what is promised of them. Assumes nothing.
+-- The fit rule, the three fits, and what is promised of them. Assumes nothing.
 pub mod Codes
 pub mod Rule
 pub mod Tasks

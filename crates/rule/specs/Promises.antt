@@ -1,4 +1,4 @@
--- What is promised of both fits: each theorem holds for either solver, and was proved once over the problem. Assumes nothing.
+-- What is promised of all three fits: each theorem holds for every solver, and was proved once over the problem. Assumes nothing.
 use mathlib.Core.Path.{_≡_, refl, sym, subst}
 use mathlib.Core.Logic.{_≢_}
 use mathlib.Core.Bool.{Bool, true, false, _||_, _&&_}

@@ -14,14 +14,14 @@ use Rattle.support.specs.Word.{has, term-at}
 use Rattle.support.specs.WordLaws.{word-lt, has-lt}
 use Rattle.support.specs.TermLaws.{Member, term-at-is}
 use Rattle.refusal.specs.Answers.{Solution, solved, refused, solution, Within}
-use Rattle.sums.specs.Products.{gram, moment, ridge, jtj-matrix, jtr-column}
+use Rattle.sums.specs.Products.{gram, moment, ridge, marquardt, jtj-matrix, jtr-column}
 use Rattle.normal.specs.Normal.{normal}
 use Rattle.normal.specs.Refuses.{normal-refuses}
 use Rattle.least.specs.Refuses.{least-refuses}
 use Rattle.places.specs.Columns.{columns}
 use Rattle.rule.specs.declared.Task.{Task}
 use Rattle.rule.specs.declared.Solver.{Solver}
-use Rattle.rule.specs.declared.Solver.the-variants.{Normal, Qr}
+use Rattle.rule.specs.declared.Solver.the-variants.{Normal, Qr, Marquardt}
 use Rattle.rule.specs.declared.Stop.{Stop}
 use Rattle.rule.specs.declared.Stop.the-variants.{NoData, FirstRefused, Empty, RefitRefused, Settled, OutOfRounds}
 use Rattle.rule.specs.Rule.{Problem, State, latest, support, refit, first, rounds, reported, last-look, finish, fit, past, refitted}
@@ -29,18 +29,24 @@ use Rattle.rule.specs.Rule as R
 use Rattle.rule.specs.Fits.{by-sums, by-normal, by-least, solves, problem, problem-by}
 use Rattle.rule.specs.Course.{Course, after-rounds}
 
--- either solver refuses, if at all, at one of its columns
-pub solves-refuse : (solver : Solver) (lambda : Float) (t : ℕ → Float) (rows c : ℕ) (e : Entry) → Within c (solves solver lambda t rows c e)
-unfolding solves by-normal by-sums by-least
-solves-refuse Normal lambda t rows c e =
-    let a = jtj-matrix (ridge lambda) c (gram e rows) in
+-- the normal equations refuse, if at all, at one of their columns, however they are damped
+by-normal-within : (damp : Float → Float) (t : ℕ → Float) (rows c : ℕ) (e : Entry) → Within c (by-normal damp t rows c e)
+unfolding by-normal by-sums
+by-normal-within damp t rows c e =
+    let a = jtj-matrix damp c (gram e rows) in
     let b = jtr-column c (moment e t rows) in
     go (normal c a b) (normal-refuses c a b)
   where
     go : (w : Way (List Float)) → StopsBelow c w → Within c (solution w)
     go (going x) p = tt
     go (stopped k x) p = p
+
+-- and so does each solver
+pub solves-refuse : (solver : Solver) (lambda : Float) (t : ℕ → Float) (rows c : ℕ) (e : Entry) → Within c (solves solver lambda t rows c e)
+unfolding solves by-least
+solves-refuse Normal lambda t rows c e = by-normal-within (ridge lambda) t rows c e
 solves-refuse Qr lambda t rows c e = least-refuses (rows + c) c _ _
+solves-refuse Marquardt lambda t rows c e = by-normal-within (marquardt lambda) t rows c e
 
 -- a problem whose solves do so
 pub record Columned (P : Problem) : Type 0 where

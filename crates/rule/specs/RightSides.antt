@@ -14,7 +14,7 @@ use Rattle.float64.specs.Root.{absOf}
 use Rattle.refusal.specs.Answers.{solved, solution}
 use Rattle.transpose.specs.Transpose.{qt-column, qt}
 use Rattle.householder.specs.Qr.{after, betas}
-use Rattle.cholesky.specs.Cholesky.{chol-forward, chol-back, chol-end, chol-factor, cholesky}
+use Rattle.cholesky.specs.Cholesky.{forward-at, back-at, chol-forward, chol-back, chol-end, chol-factor, cholesky}
 use Rattle.lu.specs.Lu.{pivot-row, swap-rows, lu-swap, lu-eliminate, lu-pivoted, lu-column, lu-factor, lu-forward, lu-back, lu-end, lu}
 use Rattle.normal.specs.Normal.{right-side, or-lu, normal}
 use Rattle.least.specs.Least.{above, back-column, back, values, least}
@@ -32,7 +32,7 @@ module _ {Q : Float → Type 0} (made : Rounded Q) where
     Second s = Right (s .1)
 
     cholesky-right : (n : ℕ) (b : List Float) (w : Way (List Float)) → Right b → Right (final (chol-end n b w) .1)
-    unfolding chol-end chol-back chol-forward
+    unfolding chol-end chol-back chol-forward back-at forward-at
     cholesky-right n b (going l) c =
         down-keeps Right n _ _ (λ i x. set-column x i _ (made .part-of _ _)) (loop-keeps Right 0 n _ b (λ i x. set-column x i _ (made .part-of _ _)) c)
     cholesky-right n b (stopped k l) c = c

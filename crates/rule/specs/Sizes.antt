@@ -13,13 +13,18 @@ use Rattle.refusal.specs.declared.Answer.{Answer}
 use Rattle.refusal.specs.declared.Answer.the-variants.{Done}
 use Rattle.refusal.specs.declared.Refusal.the-variants.{ManyColumns, ManyRows, ManyRounds, MatrixLength, TargetLength, OutputLength, WorkspaceShort}
 use Rattle.rule.specs.declared.Solver.{Solver}
-use Rattle.rule.specs.declared.Solver.the-variants.{Normal, Qr}
+use Rattle.rule.specs.declared.Solver.the-variants.{Normal, Qr, Marquardt}
 use Rattle.rule.specs.declared.Task.{Task}
 
--- the workspace of a fit, in numbers: `strlsq` 3·c² + 2·c at any row count; `strlsq_qr` 2·(r+c)·c + 3·(r+c) + 3·c
+-- the workspace of a fit, in numbers: by the normal equations 3·c² + 2·c at any row count
+abbrev pub normal-need : ℕ → ℕ
+normal-need c = 3 * (c * c) + 2 * c
+
+-- `strlsq` and `strlsq_marquardt` that; `strlsq_qr` 2·(r+c)·c + 3·(r+c) + 3·c
 unfoldable pub fit-need : Solver → ℕ → ℕ → ℕ
-fit-need Normal r c = 3 * (c * c) + 2 * c
+fit-need Normal r c = normal-need c
 fit-need Qr r c = 2 * ((r + c) * c) + 3 * (r + c) + 3 * c
+fit-need Marquardt r c = normal-need c
 
 abbrev pub task-need : Task → ℕ
 task-need task = fit-need (task .solver) (task .rows) (task .cols)

@@ -20,12 +20,12 @@ use Rattle.support.specs.CountLaws.{ones-full, place-is, count-full}
 use Rattle.refusal.specs.Answers.{solved, solution}
 use Rattle.places.specs.Columns.{columns}
 use Rattle.places.specs.ColumnLaws.{columns-full}
-use Rattle.sums.specs.Products.{gram, moment, ridge, jtj-matrix, jtr-column}
+use Rattle.sums.specs.Products.{gram, moment, ridge, marquardt, jtj-matrix, jtr-column}
 use Rattle.sums.specs.ProductLaws.{gram-cong, moment-cong, jtj-cong}
 use Rattle.normal.specs.Normal.{normal}
 use Rattle.least.specs.Least.{least}
 use Rattle.rule.specs.declared.Solver.{Solver}
-use Rattle.rule.specs.declared.Solver.the-variants.{Normal, Qr}
+use Rattle.rule.specs.declared.Solver.the-variants.{Normal, Qr, Marquardt}
 use Rattle.rule.specs.Rule.{scatter}
 use Rattle.rule.specs.Fits.{by-sums, by-normal, augmented, padded, by-least, solves}
 use Rattle.rule.specs.Rounded.{Rounded, Column, anything, sum-made, tab-column}
@@ -39,13 +39,18 @@ module _ {Q : Float → Type 0} (made : Rounded Q) where
   unfolding by-sums jtr-column
   sums-column damp c g m vs h q = normal-column made c (jtj-matrix damp c g) (tab c m) vs (tab-column made c m h) q
 
+  by-normal-column : (damp : Float → Float) (t : ℕ → Float) (rows c : ℕ) (e : Entry) (vs : List Float) → by-normal damp t rows c e ≡ solved vs → Column Q c vs
+  unfolding by-normal moment
+  by-normal-column damp t rows c e vs q = sums-column damp c (gram e rows) (moment e t rows) vs (λ p. sum-made made +zero 0 rows _ (made .nought)) q
+
   -- a solve of c columns gives c values, Q of each, where Q holds of the target's numbers
   pub solved-column : (solver : Solver) (lambda : Float) (t : ℕ → Float) (rows c : ℕ) (e : Entry) (vs : List Float) → ((i : ℕ) → Q (t i)) → solves solver lambda t rows c e ≡ solved vs → Column Q c vs
-  unfolding solves by-normal moment by-least padded
-  solved-column Normal lambda t rows c e vs h q = sums-column (ridge lambda) c (gram e rows) (moment e t rows) vs (λ p. sum-made made +zero 0 rows _ (made .nought)) q
+  unfolding solves by-least padded
+  solved-column Normal lambda t rows c e vs h q = by-normal-column (ridge lambda) t rows c e vs q
   solved-column Qr lambda t rows c e vs h q =
       let right = tab-column made (rows + c) (padded rows t) (λ i. either Q (ltb i rows) (t i) +zero (λ k. h i) (λ k. made .nought)) in
       least-column made (rows + c) c _ _ vs (omega arith) right q
+  solved-column Marquardt lambda t rows c e vs h q = by-normal-column (marquardt lambda) t rows c e vs q
 
 pub one-a-column : (solver : Solver) (lambda : Float) (t : ℕ → Float) (rows c : ℕ) (e : Entry) (vs : List Float) → solves solver lambda t rows c e ≡ solved vs → length vs ≡ c
 one-a-column solver lambda t rows c e vs q = solved-column anything solver lambda t rows c e vs (λ i. tt) q .long
@@ -65,13 +70,18 @@ module _ (rows c : ℕ) (e f : Entry) (h : (i p : ℕ) → i < rows → p < c �
   augmented-cong root i p b (inl l) = rw (lt-ltb i rows l) (h i p l b)
   augmented-cong root i p b (inr l) = rw (le-ltb i rows l)
 
+  by-normal-cong : (damp : Float → Float) (t : ℕ → Float) → by-normal damp t rows c e ≡ by-normal damp t rows c f
+  unfolding by-normal
+  by-normal-cong damp t =
+      sums-cong damp c _ _ _ _ (λ p q a b. gram-cong e f rows p q (λ i l. h i p l a) (λ i l. h i q l b)) (λ p a. moment-cong e f t rows p (λ i l. h i p l a))
+
   pub solves-cong : (solver : Solver) (lambda : Float) (t : ℕ → Float) → solves solver lambda t rows c e ≡ solves solver lambda t rows c f
-  unfolding solves by-normal by-least
-  solves-cong Normal lambda t =
-      sums-cong (ridge lambda) c _ _ _ _ (λ p q a b. gram-cong e f rows p q (λ i l. h i p l a) (λ i l. h i q l b)) (λ p a. moment-cong e f t rows p (λ i l. h i p l a))
+  unfolding solves by-least
+  solves-cong Normal lambda t = by-normal-cong (ridge lambda) t
   solves-cong Qr lambda t =
       ap (λ (a : List Float). least (rows + c) c a (tab (rows + c) (padded rows t)))
       (table-cong (rows + c) c _ _ (λ i p a b. augmented-cong (rootOf lambda) i p b (lt-or-ge i rows)))
+  solves-cong Marquardt lambda t = by-normal-cong (marquardt lambda) t
 
 -- over the full support it is the solve of all columns
 pub solves-full : (solver : Solver) (lambda : Float) (t : ℕ → Float) (rows n : ℕ) (e : Entry) → n ≤ 64

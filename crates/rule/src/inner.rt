@@ -1,7 +1,7 @@
 // The first refusal that applies to a fit, for the fits and the exchange.
 ghost use mathlib.Core.Path.{_≡_};
 ghost use Prim.Native.Nat.{_≤_};
-ghost use Rattle.rule.specs.Sizes.{fit-need, limits, lengths, fit-sizes, Limited};
+ghost use Rattle.rule.specs.Sizes.{normal-need, fit-need, limits, lengths, fit-sizes, Limited};
 use crate::Solver;
 use crate::Task;
 use refusal::Answer;
@@ -24,14 +24,23 @@ pub fn limits(task: Task, cols: usize, rows: usize) -> Answer
     Answer::Done
 }
 
+// The workspace that a fit by the normal equations needs, however they are damped.
+fn needed_sums(n_cols: usize) -> usize
+    requires { ⌜ «n_cols» ≤ 64 ⌝ }
+    ensures { λ r. ⌜ r ≡ normal-need «n_cols» ⌝ }
+{
+    3 * (n_cols * n_cols) + 2 * n_cols
+}
+
 // The workspace that a fit needs, in numbers.
 pub fn needed(solver: Solver, n_rows: usize, n_cols: usize) -> usize
     requires { ⌜ («n_rows» ≤ 4096) × («n_cols» ≤ 64) ⌝ }
     ensures { λ r. ⌜ r ≡ fit-need solver «n_rows» «n_cols» ⌝ }
 {
     match solver {
-        Solver::Normal => 3 * (n_cols * n_cols) + 2 * n_cols,
+        Solver::Normal => needed_sums(n_cols),
         Solver::Qr => 2 * ((n_rows + n_cols) * n_cols) + 3 * (n_rows + n_cols) + 3 * n_cols,
+        Solver::Marquardt => needed_sums(n_cols),
     }
 }
 

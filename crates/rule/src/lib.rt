@@ -15,10 +15,11 @@ pub struct Setup {
     pub max_iter: usize,
 }
 
-// How a solve is done: by the normal equations or by least squares.
+// How a solve is done: by the normal equations, by least squares, or by the normal equations damped in proportion.
 pub enum Solver {
     Normal,
     Qr,
+    Marquardt,
 }
 
 // What a fit is asked for: how it solves, theta's sizes, and the setup. A header says just this.

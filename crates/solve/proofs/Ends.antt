@@ -1,7 +1,7 @@
 -- The ways out of a solver's call, over plain values: refused by its sizes, or ended as its solve did. Assumes nothing.
 use mathlib.Core.Path.{_≡_, sym, ap, _∙_}
 use mathlib.Core.List.{List}
-use Prim.Native.Nat.{ℕ, _*_}
+use Prim.Native.Nat.{ℕ, _+_, _*_}
 use lib.ListN.{length, take}
 use lib.Ieee.{Float}
 use Rattle.steps.specs.Loops.{Way}
@@ -11,12 +11,13 @@ use Rattle.refusal.specs.Told.{ended-told, final-told}
 use Rattle.refusal.specs.declared.Answer.{Answer}
 use Rattle.refusal.specs.declared.Answer.the-variants.{Done, Refused}
 use Rattle.refusal.specs.declared.Refusal.{Refusal}
-use Rattle.refusal.specs.declared.Refusal.the-variants.{SmallPivot}
+use Rattle.refusal.specs.declared.Refusal.the-variants.{NotSpd, SmallPivot}
 use Rattle.refusal.specs.declared.Solved.{Solved}
 use Rattle.refusal.specs.declared.Solved.the-variants as S
 use Rattle.normal.specs.Normal.{normal}
+use Rattle.inverse.specs.Inverse.{invert}
 use Rattle.least.specs.Least.{values, least}
-use Rattle.solve.specs.Calls.{square-sizes, SquareCall, normal-sizes, NormalCall, least-need, least-sizes, LeastLeft, LeastCall}
+use Rattle.solve.specs.Calls.{square-sizes, SquareCall, normal-sizes, NormalCall, invert-sizes, InvertCall, least-need, least-sizes, LeastLeft, LeastCall}
 
 module _ {why : ℕ → Refusal} {solve : Way (List Float × List Float)} {a b : List Float} {n : ℕ} {sizes : Answer} (judged : sizes ≡ square-sizes n (length a) (length b)) where
   pub square-refused : {w : Refusal} → sizes ≡ Refused w → SquareCall why solve a b n a b sizes
@@ -44,6 +45,20 @@ module _ {a b : List Float} {n : ℕ} {w : List Float} {sizes : Answer} (judged 
         judged = judged;
         answer = rw (e, ← t) (q ∙ sym (ended-told SmallPivot s b'));
         right = rw (e, ← t) (sym (final-told s b'));
+        space = rw e k;
+      }
+
+module _ {a : List Float} {n : ℕ} {o w : List Float} {sizes : Answer} (judged : sizes ≡ invert-sizes n (length a) (length o) (length w)) where
+  pub invert-refused : {x : Refusal} → sizes ≡ Refused x → InvertCall a n o o w w sizes
+  invert-refused e = record { sizes = sizes; judged = judged; answer = rw e; out = rw e; space = rw e }
+
+  pub invert-solved : (s : Solved) {o' w' : List Float} {r : Answer} → sizes ≡ Done → told s o' ≡ invert n a o → w' ≡ cleared (n * n + n) w → r ≡ answered NotSpd s → InvertCall a n o o' w w' r
+  invert-solved s {o'} e t k q =
+      record {
+        sizes = sizes;
+        judged = judged;
+        answer = rw (e, ← t) (q ∙ sym (ended-told NotSpd s o'));
+        out = rw (e, ← t) (sym (final-told s o'));
         space = rw e k;
       }
 

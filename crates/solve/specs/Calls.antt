@@ -15,6 +15,7 @@ use Rattle.refusal.specs.declared.Refusal.{Refusal}
 use Rattle.refusal.specs.declared.Refusal.the-variants.{ManyColumns, ManyRows, MatrixLength, TargetLength, OutputLength, FewRows, WorkspaceShort, NotSpd, SmallPivot}
 use Rattle.cholesky.specs.Cholesky.{cholesky}
 use Rattle.lu.specs.Lu.{lu}
+use Rattle.inverse.specs.Inverse.{invert}
 use Rattle.normal.specs.Normal.{normal}
 use Rattle.least.specs.Least.{least}
 
@@ -31,6 +32,15 @@ square-sizes n matrix right =
 -- the normal equations need n² numbers of workspace
 unfoldable pub normal-sizes : ℕ → ℕ → ℕ → ℕ → Answer
 normal-sizes n matrix right space = and-then (square-sizes n matrix right) (refuse-if (ltb space (n * n)) WorkspaceShort Done)
+
+-- the inverse needs n² + n
+unfoldable pub invert-sizes : ℕ → ℕ → ℕ → ℕ → Answer
+invert-sizes n matrix out space =
+    refuse-if (ltb 64 n) ManyColumns
+    (refuse-if (not (eqb matrix (n * n))) MatrixLength
+    (refuse-if (not (eqb out (n * n))) OutputLength
+    (refuse-if (ltb space (n * n + n)) WorkspaceShort
+    Done)))
 
 -- the workspace of least squares: m·n + 2·m + 2·n
 unfoldable pub least-need : ℕ → ℕ → ℕ
@@ -73,6 +83,14 @@ pub record NormalCall (a b : List Float) (n : ℕ) (b' w w' : List Float) (r : A
   pub answer : r ≡ and-then sizes (ended SmallPivot (normal n a b))
   pub right : b' ≡ if-done sizes (final (normal n a b)) b
   pub space : w' ≡ if-done sizes (cleared (n * n) w) w
+
+-- `invert_spd`: 8 carries Cholesky's column and leaves the output unchanged; the workspace is cleared after acceptance and after 8
+pub record InvertCall (a : List Float) (n : ℕ) (o o' w w' : List Float) (r : Answer) : Type 0 where
+  pub sizes : Answer
+  pub judged : sizes ≡ invert-sizes n (length a) (length o) (length w)
+  pub answer : r ≡ and-then sizes (ended NotSpd (invert n a o))
+  pub out : o' ≡ if-done sizes (final (invert n a o)) o
+  pub space : w' ≡ if-done sizes (cleared (n * n + n) w) w
 
 -- a solution as an answer, and what it leaves in the output: a refusal leaves it unchanged
 abbrev pub least-answer : Solution → Answer

@@ -2,7 +2,7 @@
 use mathlib.Core.Path.{_≡_, refl, sym, ap, _∙_, subst}
 use mathlib.Core.Bool.{not}
 use mathlib.Core.List.{List}
-use Prim.Native.Nat.{ℕ, _*_, _<_}
+use Prim.Native.Nat.{ℕ, _+_, _*_, _<_}
 use lib.Dec.{ltb, eqb}
 use lib.ListN.{length}
 use lib.Ieee.{Float}
@@ -19,11 +19,13 @@ use Rattle.cholesky.specs.Cholesky.{cholesky}
 use Rattle.cholesky.specs.Refuses.{chol-refuses}
 use Rattle.lu.specs.Lu.{lu}
 use Rattle.lu.specs.Refuses.{lu-refuses}
+use Rattle.inverse.specs.Refuses.{invert-refuses}
+use Rattle.inverse.specs.Inverse.{invert}
 use Rattle.normal.specs.Refuses.{normal-refuses}
 use Rattle.normal.specs.Normal.{normal}
 use Rattle.least.specs.Refuses.{least-refuses}
 use Rattle.least.specs.Least.{least}
-use Rattle.solve.specs.Calls.{square-sizes, normal-sizes, least-need, least-sizes, SquareCall, CholeskyCall, LuCall, NormalCall, least-answer, LeastCall}
+use Rattle.solve.specs.Calls.{square-sizes, normal-sizes, invert-sizes, least-need, least-sizes, SquareCall, CholeskyCall, LuCall, NormalCall, InvertCall, least-answer, LeastCall}
 
 -- an answer that tells no column, or one below n
 InMatrix : ℕ → Column → Type 0
@@ -60,6 +62,12 @@ module _ (n : ℕ) where
   unfolding M InMatrix normal-sizes
   spaced matrix right space = both (square-sizes n matrix right) _ (square matrix right) (either M (ltb space (n * n)) _ _ (λ t. tt) (λ f. tt))
 
+  alike : (matrix out space : ℕ) → M (invert-sizes n matrix out space)
+  unfolding M InMatrix invert-sizes
+  alike matrix out space =
+      either M (ltb 64 n) _ _ (λ t. tt) (λ f. either M (not (eqb matrix (n * n))) _ _ (λ t. tt) (λ f. either M (not (eqb out (n * n))) _ _ (λ t. tt)
+      (λ f. either M (ltb space (n * n + n)) _ _ (λ t. tt) (λ f. tt))))
+
   tall : (m matrix right out space : ℕ) → M (least-sizes m n matrix right out space)
   unfolding M InMatrix least-sizes
   tall m matrix right out space =
@@ -88,6 +96,10 @@ lu-column-below a b n a' b' r call = told n r (call .answer ∙ ap (λ s. and-th
 pub normal-column-below : (a b : List Float) (n : ℕ) (w b' w' : List Float) (r : Answer) → NormalCall a b n b' w w' r → ColumnBelow n r
 normal-column-below a b n w b' w' r call =
     told n r (call .answer ∙ ap (λ s. and-then s _) (call .judged)) (both n _ _ (spaced n (length a) (length b) (length w)) (ended-at n SmallPivot (λ c. refl) (normal n a b) (normal-refuses n a b)))
+
+pub invert-column-below : (a : List Float) (n : ℕ) (o w o' w' : List Float) (r : Answer) → InvertCall a n o o' w w' r → ColumnBelow n r
+invert-column-below a n o w o' w' r call =
+    told n r (call .answer ∙ ap (λ s. and-then s _) (call .judged)) (both n _ _ (alike n (length a) (length o) (length w)) (ended-at n NotSpd (λ c. refl) (invert n a o) (invert-refuses n a o)))
 
 pub least-column-below : (a b : List Float) (m n : ℕ) (o w o' w' : List Float) (r : Answer) → LeastCall a b m n o o' w w' r → ColumnBelow n r
 least-column-below a b m n o w o' w' r call =

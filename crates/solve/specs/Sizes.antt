@@ -1,14 +1,14 @@
 -- What the sizes of a solver tell that are not refused. Assumes nothing.
 use mathlib.Core.Path.{_≡_, refl, sym, _∙_}
 use mathlib.Core.Bool.{not}
-use Prim.Native.Nat.{ℕ, _*_, _≤_}
+use Prim.Native.Nat.{ℕ, _+_, _*_, _≤_}
 use borrow.Author.Tests.{ltb-false, eqb-true, not-false}
 use lib.Dec.{ltb, eqb}
 use Rattle.refusal.specs.Ladder.{not-refused, both-done}
 use Rattle.refusal.specs.declared.Answer.{Answer}
 use Rattle.refusal.specs.declared.Answer.the-variants.{Done}
 use Rattle.refusal.specs.declared.Refusal.the-variants.{ManyColumns, ManyRows, MatrixLength, TargetLength, OutputLength, FewRows, WorkspaceShort}
-use Rattle.solve.specs.Calls.{square-sizes, normal-sizes, least-need, least-sizes}
+use Rattle.solve.specs.Calls.{square-sizes, normal-sizes, invert-sizes, least-need, least-sizes}
 
 -- a square solver's
 pub record Square (n matrix right : ℕ) : Type 0 where
@@ -30,6 +30,21 @@ unfolding normal-sizes
 normal-fits {n} {matrix} {right} {space} judged e =
     let both = both-done (square-sizes n matrix right) _ (sym judged ∙ e) in
     (square-fits refl (both .0), ltb-false _ _ (not-refused (ltb space (n * n)) WorkspaceShort _ (both .1) .0))
+
+-- the inverse's
+pub record InvertSized (n matrix out : ℕ) : Type 0 where
+  pub few : n ≤ 64
+  pub square : matrix ≡ n * n
+  pub alike : out ≡ n * n
+
+pub invert-fits : {n matrix out space : ℕ} {sizes : Answer} → sizes ≡ invert-sizes n matrix out space → sizes ≡ Done → InvertSized n matrix out × (n * n + n ≤ space)
+unfolding invert-sizes
+invert-fits {n} {matrix} {out} {space} judged e =
+    let few = not-refused (ltb 64 n) ManyColumns _ (sym judged ∙ e) in
+    let square = not-refused (not (eqb matrix (n * n))) MatrixLength _ (few .1) in
+    let alike = not-refused (not (eqb out (n * n))) OutputLength _ (square .1) in
+    let room = not-refused (ltb space (n * n + n)) WorkspaceShort _ (alike .1) in
+    (record { few = ltb-false _ _ (few .0); square = eqb-true _ _ (not-false _ (square .0)); alike = eqb-true _ _ (not-false _ (alike .0)) }, ltb-false _ _ (room .0))
 
 -- least squares'
 pub record LeastSized (m n matrix right out : ℕ) : Type 0 where

@@ -2,7 +2,8 @@
 mod ready;
 mod sizes;
 
-ghost use Rattle.solve.specs.Calls.{CholeskyCall, LeastCall, LuCall, NormalCall};
+ghost use Rattle.solve.specs.Calls.{CholeskyCall, InvertCall, LeastCall, LuCall, NormalCall};
+use crate::ready::invert_ready;
 use crate::ready::least_ready;
 use crate::ready::normal_ready;
 use cholesky::inner::cholesky;
@@ -42,6 +43,17 @@ pub fn solve_normal_equations(a: &[f64], b: &mut [f64], n: usize, workspace: &mu
         return sizes;
     };
     small_pivot(normal_ready(a, b, n, workspace))
+}
+
+// The inverse of a positive definite matrix by Cholesky, into `out`: a stays, and the workspace is cleared.
+pub fn invert_spd(a: &[f64], n: usize, out: &mut [f64], workspace: &mut [f64]) -> Answer
+    ensures { λ r. ⌜ InvertCall (now (a .entry)) n (now (out .entry)) (now (out .exit)) (now (workspace .entry)) (now (workspace .exit)) r ⌝ }
+{
+    let sizes = sizes::invert_sizes(n, a.len(), out.len(), workspace.len());
+    let Answer::Done = sizes else {
+        return sizes;
+    };
+    not_spd(invert_ready(a, n, out, workspace))
 }
 
 // The least squares solution of the m by n matrix `a` and the right-hand side `b`, into `out`.

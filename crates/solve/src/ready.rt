@@ -5,10 +5,12 @@ ghost use lib.ListN.{length};
 ghost use Rattle.steps.specs.Space.{cleared};
 ghost use Rattle.refusal.specs.Answers.{told};
 ghost use Rattle.normal.specs.Normal.{normal};
+ghost use Rattle.inverse.specs.Inverse.{invert};
 ghost use Rattle.least.specs.Least.{least};
 ghost use Rattle.solve.specs.Calls.{LeastLeft, least-need};
-ghost use Rattle.solve.specs.Sizes.{Square, LeastSized};
+ghost use Rattle.solve.specs.Sizes.{Square, InvertSized, LeastSized};
 use crate::sizes::least_need;
+use inverse::inner::invert;
 use least::inner::least_of;
 use normal::inner::normal_equations;
 use refusal::Answer;
@@ -26,6 +28,17 @@ pub fn normal_ready(a: &[f64], b: &mut [f64], n: usize, workspace: &mut [f64]) -
     let solved = normal_equations(a, b, n, &mut workspace[0..cells]);
     clear(workspace, cells);
     solved
+}
+
+// The inverse of sizes that nothing refuses: its factor in n * n numbers of the workspace, which are cleared, as are n more.
+pub fn invert_ready(a: &[f64], n: usize, out: &mut [f64], workspace: &mut [f64]) -> Solved
+    requires { ⌜ (InvertSized n (length (now a)) (length (now out))) × (n * n + n ≤ length (now workspace)) ⌝ }
+    ensures { λ r. ⌜ (told r (now (out .exit)) ≡ invert n (now (a .entry)) (now (out .entry))) × (now (workspace .exit) ≡ cleared (n * n + n) (now (workspace .entry))) ⌝ }
+{
+    let cells = a.len();
+    let inverted = invert(a, n, out, &mut workspace[0..cells]);
+    clear(workspace, cells + n);
+    inverted
 }
 
 // The least squares solution of a and b into `out`, worked out in ws, of m * n + m numbers.

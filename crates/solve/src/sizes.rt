@@ -1,7 +1,7 @@
 // The first refusal that applies to a solver, by its sizes and the lengths of its slices.
 ghost use mathlib.Core.Path.{_≡_};
 ghost use Prim.Native.Nat.{_≤_};
-ghost use Rattle.solve.specs.Calls.{square-sizes, normal-sizes, least-need, least-sizes};
+ghost use Rattle.solve.specs.Calls.{square-sizes, normal-sizes, invert-sizes, least-need, least-sizes};
 use refusal::Answer;
 use refusal::Refusal;
 
@@ -30,6 +30,25 @@ pub fn normal_sizes(n: usize, matrix: usize, right: usize, space: usize) -> Answ
         return square;
     };
     if space < n * n {
+        return Answer::Refused(Refusal::WorkspaceShort);
+    }
+    Answer::Done
+}
+
+// A square matrix of n columns, its inverse and the workspace.
+pub fn invert_sizes(n: usize, matrix: usize, out: usize, space: usize) -> Answer
+    ensures { λ r. ⌜ r ≡ invert-sizes n matrix out space ⌝ }
+{
+    if n > 64 {
+        return Answer::Refused(Refusal::ManyColumns);
+    }
+    if matrix != n * n {
+        return Answer::Refused(Refusal::MatrixLength);
+    }
+    if out != n * n {
+        return Answer::Refused(Refusal::OutputLength);
+    }
+    if space < n * n + n {
         return Answer::Refused(Refusal::WorkspaceShort);
     }
     Answer::Done

@@ -14,6 +14,11 @@ use lib.Seq.{drop-length, ext-getD, getD-set-other}
 pub row-fits : (m n r : ℕ) → r < m → r * n + n ≤ m * n
 row-fits m n r h = rw suc-mul at (mul-le-mul-right n h)
 
+-- two entries at one place of a matrix of n columns are one entry
+pub same-cell : (n i j i' j' : ℕ) → j < n → j' < n → i * n + j ≡ i' * n + j' → (i ≡ i') × (j ≡ j')
+same-cell n i j i' j' h h' e =
+    (sym (digits-div i h) ∙ ap (λ (x : ℕ). x / n) e ∙ digits-div i' h', sym (digits-mod i h) ∙ ap (λ (x : ℕ). x % n) e ∙ digits-mod i' h')
+
 module _ {ℓ} {A : Type ℓ} where
   -- f 0, f 1, .., f (n - 1)
   unfoldable pub tab : ℕ → (ℕ → A) → List A
@@ -105,5 +110,4 @@ module _ {ℓ} {A : Type ℓ} where
   -- an entry of a matrix after a store at another row or column
   pub cell-other : (l : List A) (n i j i' j' : ℕ) (v d : A) → j < n → j' < n → (i' ≡ i → j' ≡ j → ⊥) → getD (set l (i * n + j) v) (i' * n + j') d ≡ getD l (i' * n + j') d
   cell-other l n i j i' j' v d h h' ne =
-      getD-set-other l (i * n + j) (i' * n + j') v d
-      (λ e. ne (sym (digits-div i' h') ∙ ap (λ (x : ℕ). x / n) e ∙ digits-div i h) (sym (digits-mod i' h') ∙ ap (λ (x : ℕ). x % n) e ∙ digits-mod i h))
+      getD-set-other l (i * n + j) (i' * n + j') v d (λ e. let q = same-cell n i' j' i j h' h e in ne (q .0) (q .1))

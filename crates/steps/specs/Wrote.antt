@@ -2,13 +2,14 @@
 use mathlib.Core.Path.{_≡_, refl, sym, ap, _∙_, subst}
 use mathlib.Core.Logic.{⊎-elim}
 use mathlib.Core.List.{List}
-use Prim.Native.Nat.{ℕ, _+_, _≤_, _<_}
+use Prim.Native.Nat.{ℕ, _+_, _*_, _≤_, _<_}
 use native.Mathlib.Nat.{eq-or-lt-of-le}
 use native.Mathlib.Omega.{arith}
 use lib.ListN.{length, set, length-set}
 use lib.Seq.{getD-set-same, getD-set-other}
 use lib.Ieee.{Float, nan}
-use Rattle.steps.specs.Num.{at}
+use Rattle.steps.specs.Num.{at, cell}
+use Rattle.steps.specs.Table.{same-cell}
 
 -- d' is d with g c at the place p c, for each c from lo to below hi
 pub record Wrote (p : ℕ → ℕ) (lo hi : ℕ) (g : ℕ → Float) (d d' : List Float) : Type 0 where
@@ -46,3 +47,10 @@ wrote-turn p f lo i d d' l b ne w = wrote-more p lo i (λ c. f c (at d (p c))) d
 
 pub wrote-end : (p : ℕ → ℕ) (lo i hi : ℕ) (g : ℕ → Float) (d d' : List Float) → Wrote p lo i g d d' → i ≤ hi → hi ≤ i → Wrote p lo hi g d d'
 wrote-end p lo i hi g d d' w h h' = let e : i ≡ hi = omega arith in rw e at w
+
+-- along the diagonal of a matrix of k columns each place is met once, and no other is met
+pub diagonal-apart : (k p : ℕ) → p < k → Apart (λ c. c * k + c) 0 p
+diagonal-apart k p h c l l' e = let q = same-cell k p p c c h (omega arith) e in omega arith
+
+pub off-diagonal : (k i j : ℕ) (g : ℕ → Float) (d d' : List Float) → j < k → (i ≡ j → ⊥) → Wrote (λ c. c * k + c) 0 k g d d' → cell k d' i j ≡ cell k d i j
+off-diagonal k i j g d d' h ne w = w .rest (i * k + j) (λ c l l' e. let q = same-cell k i j c c h l' e in ne (q .0 ∙ sym (q .1)))

@@ -58,7 +58,7 @@ pub fn fit_ready(
     report
 }
 
-// The fit of a task: total, and what both public fits are.
+// The fit of a task: total, and what all public fits are.
 pub fn fit(
     task: Task,
     theta: &[f64],

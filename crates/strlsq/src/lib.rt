@@ -1,4 +1,4 @@
-// Both fits, over one loop.
+// The three fits, over one loop.
 pub mod inner;
 
 ghost use Rattle.rule.specs.Tasks.{task-of};
@@ -45,6 +45,28 @@ pub fn strlsq_qr(
 {
     let task = Task {
         solver: Solver::Qr,
+        rows: n_rows,
+        cols: n_cols,
+        setup,
+    };
+    inner::fit(task, theta, target, coeffs, workspace)
+}
+
+// Each solve by the normal equations again, damped in proportion to their diagonal.
+pub fn strlsq_marquardt(
+    theta: &[f64],
+    n_rows: usize,
+    n_cols: usize,
+    target: &[f64],
+    setup: Setup,
+    coeffs: &mut [f64],
+    workspace: &mut [f64],
+) -> Fitted
+    ensures { λ r. ⌜ FitCall (task-of Solver.Marquardt «n_rows» «n_cols» setup) (now (theta .entry)) (now (target .entry))
+        (now (coeffs .entry)) (now (coeffs .exit)) (now (workspace .entry)) (now (workspace .exit)) r ⌝ }
+{
+    let task = Task {
+        solver: Solver::Marquardt,
         rows: n_rows,
         cols: n_cols,
         setup,

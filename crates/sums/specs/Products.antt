@@ -3,10 +3,11 @@ use Prim.Native.Nat.{ℕ}
 use mathlib.Core.Bool.{cond}
 use mathlib.Core.List.{List}
 use lib.Dec.{eqb}
-use lib.Ieee.{Float}
-use Rattle.steps.specs.Num.{plus, times, +zero, Entry}
+use lib.Ieee.{Float, lt}
+use Rattle.steps.specs.Num.{plus, times, lit, +zero, Entry}
 use Rattle.steps.specs.Sums.{sum}
 use Rattle.steps.specs.Table.{tab, table}
+use Rattle.float64.specs.Root.{absOf}
 
 -- the products of columns p and q are summed over rows; it is the same sum at (p,q) and (q,p), by the law `gram-both`
 unfoldable pub gram : Entry → ℕ → ℕ → ℕ → Float
@@ -20,7 +21,15 @@ moment e t rows p = sum +zero 0 rows (λ i. times (e i p) (t i))
 unfoldable pub ridge : Float → Float → Float
 ridge lambda d = plus d lambda
 
--- the pair sums g, those on the diagonal damped (by `ridge` alone today; a later order damps in proportion)
+-- where damping in proportion begins
+abbrev 2^-52 : Float
+2^-52 = lit 0x3cb0000000000000
+
+-- in proportion: lambda alone where the diagonal's magnitude is below 2^-52, else (NaN too) lambda times the diagonal
+unfoldable pub marquardt : Float → Float → Float
+marquardt lambda d = plus d (cond (lt (absOf d) 2^-52) lambda (times lambda d))
+
+-- the pair sums g, those on the diagonal damped (by `ridge` or `marquardt`)
 unfoldable pub damped : (Float → Float) → Entry → Entry
 damped damp g p q = cond (eqb p q) (damp (g p q)) (g p q)
 

@@ -8,11 +8,12 @@ ghost use Prim.Native.Nat.{_*_};
 ghost use lib.ListN.{length};
 ghost use Rattle.steps.specs.Num.{at, cell as cell-of};
 ghost use Rattle.steps.specs.Table.{table};
-ghost use Rattle.sums.specs.Products.{gram, moment, ridge, jtj-matrix, jtr-column};
-ghost use Rattle.sums.specs.Inner.{Matrix};
+ghost use Rattle.sums.specs.Products.{gram, moment, marquardt, jtj-matrix, jtr-column};
+ghost use Rattle.sums.specs.Inner.{Matrix, damps};
 use crate::inner::mirror::mirror;
 use crate::inner::pages::add_rows;
 use crate::inner::walk::take_targets;
+use float64::abs;
 use slices::inner::cell;
 use slices::inner::clear;
 use slices::inner::put;
@@ -27,14 +28,40 @@ pub fn jtj_sums(theta: &[f64], n_rows: usize, n_cols: usize, out: &mut [f64])
     mirror(out, n_cols);
 }
 
-// Lambda is added once to each diagonal number of a finished matrix of k columns.
-pub fn damp(out: &mut [f64], k: usize, lambda: f64)
+// How the diagonal of a finished matrix is damped: by lambda as it stands, or by lambda in proportion to the number.
+pub enum Damping {
+    Ridge(f64),
+    Proportion(f64),
+}
+
+// In proportion: lambda alone where the number's magnitude is below 2^-52, else (NaN too) lambda times the number.
+fn marquardt(lambda: f64, d: f64) -> f64
+    ensures { λ r. ⌜ r ≡ marquardt lambda d ⌝ }
+{
+    if abs(d) < 2.220446049250313e-16 {
+        return d + lambda;
+    }
+    d + lambda * d
+}
+
+// A finished diagonal number, damped.
+fn damped(damping: Damping, d: f64) -> f64
+    ensures { λ r. ⌜ r ≡ damps damping d ⌝ }
+{
+    match damping {
+        Damping::Ridge(lambda) => d + lambda,
+        Damping::Proportion(lambda) => marquardt(lambda, d),
+    }
+}
+
+// Each diagonal number of a finished matrix of k columns is damped once.
+pub fn damp(out: &mut [f64], k: usize, damping: Damping)
     requires { ⌜ length (now out) ≡ k * k ⌝ }
-    ensures { λ _. ⌜ now (out .exit) ≡ jtj-matrix (ridge lambda) k (cell-of k (now (out .entry))) ⌝ }
+    ensures { λ _. ⌜ now (out .exit) ≡ jtj-matrix (damps damping) k (cell-of k (now (out .entry))) ⌝ }
 {
     for p in 0..k {
         let d = cell(out, k, p, p);
-        put(out, k, p, p, d + lambda);
+        put(out, k, p, p, damped(damping, d));
     }
 }
 

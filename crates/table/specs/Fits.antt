@@ -22,7 +22,7 @@ use Rattle.table.specs.Solvers.{opened, three}
 -- all that a fit computes with
 unfoldable pub fits : Unit {0}
 unfolding opened ones W.has W.count W.word W.terms W.place W.term
-    C.columns P.gram P.moment P.ridge P.damped P.jtj-matrix P.jtr-column
+    C.columns P.gram P.moment P.ridge P.marquardt P.damped P.jtj-matrix P.jtr-column
     R.support R.scatter R.refit R.look R.round R.first R.start R.rounds R.pruned R.reported R.last-look R.finish R.fit
     F.keeps F.clears F.by-sums F.by-normal F.augmented F.padded F.by-least F.solves F.problem F.fit-by F.matrix-of
 fits = tt

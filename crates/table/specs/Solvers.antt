@@ -16,6 +16,7 @@ use Rattle.transpose.specs.Transpose as X
 use Rattle.householder.specs.Qr as Q
 use Rattle.cholesky.specs.Cholesky as C
 use Rattle.lu.specs.Lu as U
+use Rattle.inverse.specs.Inverse as I
 use Rattle.normal.specs.Normal as E
 use Rattle.least.specs.Least as M
 
@@ -25,9 +26,9 @@ unfolding ofBits add sub neg mul div lt le eq round size sum isNan
     L.turns L.loop L.down-from L.way L.way-down S.sum S.less-sum T.tab T.table P.swapped
     R.isqrt R.units R.nearestRoot R.rootOf R.absOf R.greaterOf
     D.led D.along Q.sign Q.share Q.lose Q.store Q.reflect Q.pushed Q.normed Q.column Q.after Q.beta Q.betas X.qt-column X.qt
-    C.scale C.reduced C.chol-below C.chol-store C.chol-column C.chol-factor C.chol-forward C.chol-back C.chol-end C.cholesky
+    C.scale C.reduced C.chol-below C.chol-store C.chol-column C.chol-factor C.forward-at C.back-at C.chol-forward C.chol-back C.chol-end C.cholesky
     U.pivot-row U.swap-rows U.lu-swap U.less-row U.lu-row U.eliminated U.lu-eliminate U.lu-pivoted U.lu-column U.lu-factor U.lu-forward U.lu-back U.lu-end U.lu
-    E.or-lu E.normal M.above M.back-column M.back M.values M.least
+    I.unit I.inverse-column I.inverse I.invert-end I.invert E.or-lu E.normal M.above M.back-column M.back M.values M.least
 opened = tt
 
 abbrev pub three : Float
@@ -124,3 +125,14 @@ L5 = refl
 pub M1 : M.least 2 2 (three ∷ one ∷ four ∷ two ∷ []) (five ∷ lit 0x4024000000000000 ∷ []) ≡ solved (lit 0xbce0000000000000 ∷ lit 0x4014000000000004 ∷ [])
 unfolding opened
 M1 = refl
+
+-- I1: the inverse of (2, 1), (1, 2): its two numbers off the diagonal differ in their last digit, so a column stored as a row shows
+pub I1 : I.invert 2 (two ∷ one ∷ one ∷ two ∷ []) (three ∷ three ∷ three ∷ three ∷ [])
+    ≡ going (lit 0x3fe5555555555554 ∷ lit 0xbfd5555555555556 ∷ lit 0xbfd5555555555555 ∷ lit 0x3fe5555555555557 ∷ [])
+unfolding opened
+I1 = refl
+
+-- I2: 8 at the second column leaves all of the output
+pub I2 : I.invert 2 (four ∷ two ∷ two ∷ -one ∷ []) (three ∷ five ∷ one ∷ two ∷ []) ≡ stopped 1 (three ∷ five ∷ one ∷ two ∷ [])
+unfolding opened
+I2 = refl

@@ -26,10 +26,11 @@ const _: () = {
         };
     }
     declared! {
-        dapmotar_sqrt dapmotar_abs dapmotar_jtj dapmotar_jtr
-        dapmotar_solve_spd_cholesky dapmotar_solve_lu dapmotar_solve_normal_equations
+        dapmotar_sqrt dapmotar_abs dapmotar_jtj dapmotar_jtj_marquardt dapmotar_jtr
+        dapmotar_solve_spd_cholesky dapmotar_solve_lu dapmotar_solve_normal_equations dapmotar_invert_spd
         dapmotar_qr dapmotar_solve_least_squares
-        dapmotar_strlsq dapmotar_strlsq_qr dapmotar_strlsq_workspace dapmotar_strlsq_qr_workspace
+        dapmotar_strlsq dapmotar_strlsq_qr dapmotar_strlsq_marquardt
+        dapmotar_strlsq_workspace dapmotar_strlsq_qr_workspace dapmotar_strlsq_marquardt_workspace
         dapmotar_respond
     }
 };

@@ -113,9 +113,11 @@ fn run_sqrt(count: u64) -> ExitCode {
 }
 
 fn run_drop_in(seed: u64, count: u64) -> ExitCode {
-    let found = (0..count).filter_map(|index| drop_in::one(seed, index));
+    let found =
+        (0..count).flat_map(|index| [drop_in::one(seed, index), drop_in::inverse(seed, index)]);
+    let found = found.flatten();
     let differ = found.inspect(|text| println!("differs: {text}")).count() as u64;
-    println!("{count} problems, {differ} differ");
+    println!("{count} problems and {count} inverses, {differ} differ");
     verdict(differ)
 }
 

@@ -1,4 +1,4 @@
-//! The list of exchanges that the program `cases` replays: several of each answer for both solvers, and several that
+//! The list of exchanges that the program `cases` replays: several of each answer for each solver, and several that
 //! tell each wilful fault of the stand-in apart, document 01's traps first.
 
 use crate::fault::{self, Fault};
@@ -10,7 +10,7 @@ use std::collections::BTreeMap;
 /// Only short inputs, so that the list stays small.
 const LONGEST: usize = 900;
 /// Inputs that are looked at, for each fault anew.
-const LOOKED_AT: u64 = 40_000;
+const LOOKED_AT: u64 = 60_000;
 /// Exchanges of each answer, of each trap, and of each other fault.
 const OF_AN_ANSWER: usize = 10;
 const OF_A_TRAP: usize = 10;

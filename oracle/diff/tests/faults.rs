@@ -46,6 +46,7 @@ fn every_fault_is_found_and_nothing_else() {
     assert_eq!(found_among_roots(3_000), None);
     for index in 0..3_000 {
         assert_eq!(drop_in::one(SEED, index), None);
+        assert_eq!(drop_in::inverse(SEED, index), None);
     }
     let mut missed = Vec::new();
     for &fault in Fault::ALL {

@@ -181,7 +181,7 @@ fn some_line(rng: &mut Rng, input: &[u8]) -> Option<(usize, usize)> {
 /// Another solver code.
 fn solver(rng: &mut Rng, input: &mut Vec<u8>) {
     if input.len() >= 2 {
-        let code = rng.pick(&[0, 1, 2, 3, 0x10, 0x11, 0x12, 0x13, 0x20, 0xff]);
+        let code = rng.pick(&[0, 1, 2, 3, 4, 0x10, 0x11, 0x12, 0x13, 0x20, 0xff]);
         input.splice(0..2, format!("{code:02x}").into_bytes());
     }
 }
@@ -195,7 +195,7 @@ fn size_digit(rng: &mut Rng, input: &mut Vec<u8>) {
 
 /// A header beyond one or more limits, at a limit, or just under it, with junk after it or nothing.
 pub fn over(rng: &mut Rng) -> Vec<u8> {
-    let code = rng.pick(&[1, 2, 1, 2, 1, 2, 0, 3]);
+    let code = rng.pick(&[1, 2, 3, 1, 2, 3, 1, 2, 3, 0, 4]);
     let rows = rng.pick(&[0, 1, 127, 128, 128, 129, 130, 255, 256, 4096, 4097, 0xffff]);
     let cols = rng.pick(&[0, 1, 15, 16, 16, 17, 18, 64, 65, 255]);
     let rounds = rng.pick(&[0, 1, 999, 1000, 1000, 1001, 1002, 4096, 0xffff]);

@@ -34,6 +34,7 @@ pub const KINDS: &[(&str, Make)] = &[
     ("subnormal", subnormal),
     ("wild", wild),
     ("atbound", special::at_bound),
+    ("atdamping", special::at_damping),
     ("pivottie", special::pivot_tie),
     ("refitrefused", special::refit_refused),
     ("noshape", no_shape),
@@ -46,7 +47,7 @@ pub fn any(rng: &mut Rng, size: Size) -> (&'static str, Problem) {
 }
 
 pub fn solver(rng: &mut Rng) -> Solver {
-    rng.pick(&Solver::BOTH)
+    rng.pick(&Solver::ALL)
 }
 
 /// Rows and columns, mostly few; up to the size now and then, and the whole size rarely.

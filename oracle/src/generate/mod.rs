@@ -70,15 +70,16 @@ pub fn label(input: &[u8], answer: &Result<(Solver, Fit), Refusal>) -> String {
     match answer {
         Ok((solver, fit)) => {
             let stop = fit.report.stop;
-            format!("{:<6} {:02x} {stop:?}", solver.name(), stop.code())
+            format!("{:<9} {:02x} {stop:?}", solver.name(), stop.code())
         }
         Err(refusal) => {
             let solver = match input.get(..2) {
                 Some(b"01") => Solver::Normal.name(),
                 Some(b"02") => Solver::Qr.name(),
+                Some(b"03") => Solver::Marquardt.name(),
                 _ => "none",
             };
-            format!("{solver:<6} ff{:02x} {refusal:?}", refusal.number())
+            format!("{solver:<9} ff{:02x} {refusal:?}", refusal.number())
         }
     }
 }
@@ -110,15 +111,15 @@ mod tests {
     #[test]
     fn every_stop_and_refusal_is_met() {
         let histogram = run(1, 20_000, None).unwrap();
-        for solver in Solver::BOTH {
+        for solver in Solver::ALL {
             for stop in Stop::ALL {
-                let name = format!("{:<6} {:02x} {stop:?}", solver.name(), stop.code());
+                let name = format!("{:<9} {:02x} {stop:?}", solver.name(), stop.code());
                 assert!(histogram.of(&name) > 5, "{name}\n{histogram}");
             }
             use Refusal::*;
             for refusal in [Columns, Rows, Rounds, MalformedFrame] {
                 let name = format!(
-                    "{:<6} ff{:02x} {refusal:?}",
+                    "{:<9} ff{:02x} {refusal:?}",
                     solver.name(),
                     refusal.number()
                 );

@@ -100,7 +100,7 @@ pub fn at_bound(rng: &mut Rng, size: Size) -> Problem {
     let j = rng.below(cols);
     match solver {
         // The pivot is lambda alone: at Cholesky's bound, or below zero at LU's.
-        Solver::Normal => {
+        Solver::Normal | Solver::Marquardt => {
             p.set(j, j, 0.0);
             let lambda = rng.pick(&[1e-14, -1e-15, 1e-15, -1e-14, 4e-14]);
             p.setup.lambda = floats::step(rng, lambda);
@@ -115,6 +115,20 @@ pub fn at_bound(rng: &mut Rng, size: Size) -> Problem {
             p.setup.lambda = floats::step(rng, 1e-30);
         }
     }
+    p
+}
+
+/// Columns apart whose sums stand about 2^-52, where damping in proportion begins.
+pub fn at_damping(rng: &mut Rng, size: Size) -> Problem {
+    let cols = rng.between(1, 3.min(size.cols).min(size.rows));
+    let mut p = Problem::zeros(Solver::Marquardt, cols, cols, setups::plain(rng));
+    for j in 0..cols {
+        let x = rng.pick(&[2.0_f64.powi(-26), 2.0_f64.powi(-26), 0.0, 1.0]);
+        p.set(j, j, floats::near(rng, x));
+    }
+    p.target.fill_with(|| rng.signed());
+    p.setup.lambda = rng.pick(&[4.0, 7.0, 100.0, 1e6, 0.5, f64::INFINITY, f64::NAN]);
+    p.setup.threshold = rng.pick(&[0.0, 1e-12, 1e-3]);
     p
 }
 
@@ -141,18 +155,25 @@ pub fn refit_refused(rng: &mut Rng, size: Size) -> Problem {
     }
 }
 
-/// The first pivot is zero by a negative lambda; the target stands square to the first column, so that only
-/// the first term is kept.
+/// The first pivot is zero by a negative lambda, in proportion both are; the target stands square to the first column,
+/// so that only the first term is kept. In proportion the columns may change places.
 fn refit_refused_normal(rng: &mut Rng, size: Size) -> Problem {
     let (rows, _) = shape(rng, size);
     let rows = rows.max(2);
     let setup = setups::plain(rng);
-    let mut p = Problem::zeros(Solver::Normal, rows, 2, setup);
+    let solver = rng.pick(&[Solver::Normal, Solver::Marquardt]);
+    let mut p = Problem::zeros(solver, rows, 2, setup);
     p.theta.fill_with(|| floats::whole(rng, 3));
     p.target[0] = -p.at(1, 0);
     p.target[1] = p.at(0, 0);
     let square: f64 = (0..rows).map(|row| p.at(row, 0) * p.at(row, 0)).sum();
     p.setup.lambda = -square;
+    if solver == Solver::Marquardt {
+        p.setup.lambda = -1.0;
+        if rng.once_in(2) {
+            p.theta.chunks_mut(2).for_each(|row| row.swap(0, 1));
+        }
+    }
     p.setup.threshold = rng.pick(&[1e-3, 1e-2, 0.05]);
     p.setup.max_iter = rng.between(1, 4);
     p

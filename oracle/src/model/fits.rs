@@ -1,4 +1,4 @@
-//! Both fits and the workspaces that they need.
+//! The fits and the workspaces that they need.
 
 use super::{Answer, clear, refuse_if};
 use crate::fit::{self, Report};
@@ -13,7 +13,7 @@ pub fn fit_workspace(solver: Solver, n_rows: usize, n_cols: usize) -> usize {
 fn workspace_of(solver: Solver, r: usize, c: usize) -> Option<usize> {
     limits(r, c).ok()?;
     Some(match solver {
-        Solver::Normal => 3 * c * c + 2 * c,
+        Solver::Normal | Solver::Marquardt => 3 * c * c + 2 * c,
         Solver::Qr => 2 * (r + c) * c + 3 * (r + c) + 3 * c,
     })
 }
@@ -23,7 +23,7 @@ fn limits(n_rows: usize, n_cols: usize) -> Answer {
     refuse_if(n_rows > MAX_ROWS, Refusal::Rows)
 }
 
-/// `strlsq` or `strlsq_qr`.
+/// `strlsq`, `strlsq_qr` or `strlsq_marquardt`.
 #[allow(clippy::too_many_arguments)]
 pub fn fit(
     solver: Solver,

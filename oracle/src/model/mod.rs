@@ -12,7 +12,7 @@ mod square;
 pub use builders::{jtj, jtr};
 pub use fits::{fit, fit_workspace};
 pub use qr::{qr, solve_least_squares};
-pub use square::{solve_lu, solve_normal_equations, solve_spd_cholesky};
+pub use square::{invert_spd, solve_lu, solve_normal_equations, solve_spd_cholesky};
 
 use crate::bits::shown;
 use crate::refusal::Refusal;
@@ -25,7 +25,7 @@ fn refuse_if(test: bool, refusal: Refusal) -> Answer {
     if test { Err(refusal) } else { Ok(()) }
 }
 
-/// A workspace after an accepted call and after 9: +0.0 over the needed length, untouched past it.
+/// A workspace after an accepted call and after 8 and 9: +0.0 over the needed length, untouched past it.
 fn clear(workspace: &mut [f64], needed: usize) {
     workspace[..needed].fill(0.0);
 }

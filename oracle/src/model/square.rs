@@ -1,4 +1,4 @@
-//! The solvers of square systems.
+//! The solvers of square systems, and the inverse.
 
 use super::{Answer, clear, refuse_if};
 use crate::bits::quiet;
@@ -46,6 +46,27 @@ pub fn solve_normal_equations(
     clear(workspace, n * n);
     if answer.is_err() {
         *column = columns::of_lu(a.to_vec(), n) as u64;
+    }
+    answer
+}
+
+pub fn invert_spd(
+    a: &[f64],
+    n: usize,
+    out: &mut [f64],
+    workspace: &mut [f64],
+    column: &mut u64,
+) -> Answer {
+    refuse_if(n > MAX_COLS, Refusal::Columns)?;
+    refuse_if(a.len() != n * n, Refusal::Matrix)?;
+    refuse_if(out.len() != n * n, Refusal::Output)?;
+    refuse_if(workspace.len() < n * n + n, Refusal::Workspace)?;
+    let matrix = quiet(a);
+    let inverted = linalg::invert_spd(&matrix, n);
+    clear(workspace, n * n + n);
+    let answer = numbered(inverted.map(|inverse| out.copy_from_slice(&inverse)));
+    if answer.is_err() {
+        *column = columns::of_cholesky(&matrix, n) as u64;
     }
     answer
 }

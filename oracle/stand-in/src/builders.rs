@@ -1,10 +1,18 @@
-//! `jtj` and `jtr`, per entry.
+//! `jtj`, `jtj_marquardt` and `jtr`, per entry.
 
 use crate::fault::{self, Fault};
+use crate::root::abs;
 
-pub fn jtj(jac: &[f64], rows: usize, n: usize, lambda: f64, out: &mut [f64]) {
+/// How a finished diagonal is damped.
+#[derive(Clone, Copy, PartialEq, Eq)]
+pub enum Damping {
+    Plain,
+    InProportion,
+}
+
+pub fn jtj(jac: &[f64], rows: usize, n: usize, by: Damping, lambda: f64, out: &mut [f64]) {
     pair_sums(jac, rows, n, lambda, out);
-    damp(out, n, lambda);
+    damp(out, n, by, lambda);
 }
 
 /// The undamped sums; lambda is looked at by a fault only.
@@ -63,15 +71,39 @@ fn left_out(p: usize, q: usize, n: usize) -> bool {
         || fault::is(Fault::JtjWrongHalfMirrored) && p != q
 }
 
-/// Lambda, once to each diagonal number.
-pub fn damp(out: &mut [f64], n: usize, lambda: f64) {
+/// Each diagonal number once.
+pub fn damp(out: &mut [f64], n: usize, by: Damping, lambda: f64) {
     for p in 0..n {
-        if !fault::is(Fault::JtjLambdaFirst) {
-            out[p * n + p] += lambda;
+        let d = &mut out[p * n + p];
+        match by {
+            Damping::Plain => plain(d, lambda),
+            Damping::InProportion => in_proportion(d, lambda),
         }
-        if fault::is(Fault::JtjLambdaTwice) {
-            out[p * n + p] += lambda;
-        }
+    }
+}
+
+fn plain(d: &mut f64, lambda: f64) {
+    if !fault::is(Fault::JtjLambdaFirst) {
+        *d += lambda;
+    }
+    if fault::is(Fault::JtjLambdaTwice) {
+        *d += lambda;
+    }
+}
+
+/// Lambda alone below 2^-52, else lambda times the number.
+fn in_proportion(d: &mut f64, lambda: f64) {
+    let bound = 1.0 / (1u64 << 52) as f64;
+    let at_bound = abs(*d) == bound && fault::is(Fault::MarquardtLessOrEqual);
+    let small = abs(*d) < bound && !fault::is(Fault::MarquardtNeverAlone) || at_bound;
+    let more = if small || fault::is(Fault::MarquardtAlwaysAlone) {
+        lambda
+    } else {
+        lambda * *d
+    };
+    *d += more;
+    if fault::is(Fault::MarquardtTwice) {
+        *d += lambda * *d;
     }
 }
 

@@ -3,8 +3,9 @@
 #![allow(clippy::too_many_arguments)]
 #![allow(clippy::missing_safety_doc)]
 
+use crate::builders::Damping;
 use crate::fault::{self, Fault};
-use crate::fits::{Fit, workspace as needed_by};
+use crate::fits::{By, Fit, workspace as needed_by};
 use crate::sizes::{Sizes, clear};
 use crate::{builders, qr, root, square};
 use std::slice;
@@ -73,30 +74,39 @@ pub extern "C" fn dapmotar_abs(x: f64) -> f64 {
     root::abs(x)
 }
 
-#[unsafe(no_mangle)]
-pub unsafe extern "C" fn dapmotar_jtj(
-    jac: *const f64,
-    jac_len: usize,
-    n_rows: usize,
-    n_params: usize,
-    lambda: f64,
-    out: *mut f64,
-    out_len: usize,
-) -> u64 {
-    let (jac, place) = unsafe { (part(jac, jac_len), part_mut(out, out_len)) };
-    let mut sizes = Sizes::default();
-    sizes.columns(n_params);
-    sizes.rows(n_rows);
-    sizes.matrix(jac_len, n_rows, n_params);
-    sizes.output(out_len, n_params.wrapping_mul(n_params));
-    if sizes.first() != 0 {
-        return refused(sizes.first(), place, &mut []);
-    }
-    builders::jtj(jac, n_rows, n_params, lambda, place);
-    if out_len > 0 && fault::is(Fault::WrittenPastTheEnd) {
-        unsafe { *out.add(out_len) = 0.0 };
-    }
-    0
+macro_rules! builders {
+    ($($name:ident: $by:ident;)*) => {$(
+        #[unsafe(no_mangle)]
+        pub unsafe extern "C" fn $name(
+            jac: *const f64,
+            jac_len: usize,
+            n_rows: usize,
+            n_params: usize,
+            lambda: f64,
+            out: *mut f64,
+            out_len: usize,
+        ) -> u64 {
+            let (jac, place) = unsafe { (part(jac, jac_len), part_mut(out, out_len)) };
+            let mut sizes = Sizes::default();
+            sizes.columns(n_params);
+            sizes.rows(n_rows);
+            sizes.matrix(jac_len, n_rows, n_params);
+            sizes.output(out_len, n_params.wrapping_mul(n_params));
+            if sizes.first() != 0 {
+                return refused(sizes.first(), place, &mut []);
+            }
+            builders::jtj(jac, n_rows, n_params, Damping::$by, lambda, place);
+            if out_len > 0 && fault::is(Fault::WrittenPastTheEnd) {
+                unsafe { *out.add(out_len) = 0.0 };
+            }
+            0
+        }
+    )*};
+}
+
+builders! {
+    dapmotar_jtj: Plain;
+    dapmotar_jtj_marquardt: InProportion;
 }
 
 #[unsafe(no_mangle)]
@@ -189,6 +199,42 @@ pub unsafe extern "C" fn dapmotar_solve_normal_equations(
 }
 
 #[unsafe(no_mangle)]
+pub unsafe extern "C" fn dapmotar_invert_spd(
+    a: *const f64,
+    a_len: usize,
+    n: usize,
+    out: *mut f64,
+    out_len: usize,
+    workspace: *mut f64,
+    workspace_len: usize,
+    column: *mut [u64; 1],
+) -> u64 {
+    let a = unsafe { part(a, a_len) };
+    let (out, workspace) = unsafe { (part_mut(out, out_len), part_mut(workspace, workspace_len)) };
+    let cells = n.wrapping_mul(n);
+    let needed = fault::or(
+        cells.wrapping_add(n),
+        Fault::InverseWorkspaceOfNormal,
+        cells,
+    );
+    let mut sizes = Sizes::default();
+    sizes.columns(n);
+    sizes.matrix(a_len, n, n);
+    sizes.output(out_len, cells);
+    sizes.workspace(workspace_len, needed);
+    let number = sizes.first_of_inverse();
+    if number != 0 {
+        return unsafe { untold(number, out, workspace, column) };
+    }
+    workspace[..needed.min(workspace_len)].fill(7.0);
+    let inverted = square::invert(a, n, out);
+    if !(inverted.is_err() && fault::is(Fault::InverseWorkspaceLeftAtEight)) {
+        clear(workspace, needed);
+    }
+    unsafe { told(8, inverted, column) }
+}
+
+#[unsafe(no_mangle)]
 pub unsafe extern "C" fn dapmotar_qr(
     a: *const f64,
     a_len: usize,
@@ -277,14 +323,14 @@ pub unsafe extern "C" fn dapmotar_solve_least_squares(
     unsafe { told(9, solved, column) }
 }
 
-/// Either fit, its sizes tested and its slices written.
+/// Any of the fits, its sizes tested and its slices written.
 unsafe fn fit(
     fit: Fit<'_>,
     coeffs: &mut [f64],
     workspace: &mut [f64],
     report: *mut [u64; 4],
 ) -> u64 {
-    let needed = needed_by(fit.by_qr, fit.rows, fit.cols);
+    let needed = needed_by(fit.by, fit.rows, fit.cols);
     let mut sizes = Sizes::default();
     sizes.columns(fit.cols);
     sizes.rows(fit.rows);
@@ -322,7 +368,7 @@ unsafe fn fit(
 }
 
 macro_rules! fits {
-    ($($name:ident: by_qr $by_qr:literal;)*) => {$(
+    ($($name:ident: $by:ident;)*) => {$(
         #[unsafe(no_mangle)]
         pub unsafe extern "C" fn $name(
             theta: *const f64,
@@ -342,7 +388,7 @@ macro_rules! fits {
         ) -> u64 {
             unsafe {
                 let problem = Fit {
-                    by_qr: $by_qr,
+                    by: By::$by,
                     theta: part(theta, theta_len),
                     rows: n_rows,
                     cols: n_cols,
@@ -363,29 +409,35 @@ macro_rules! fits {
 }
 
 fits! {
-    dapmotar_strlsq: by_qr false;
-    dapmotar_strlsq_qr: by_qr true;
+    dapmotar_strlsq: Normal;
+    dapmotar_strlsq_qr: Qr;
+    dapmotar_strlsq_marquardt: Marquardt;
 }
 
 /// A workspace length, 0 beyond the limits.
-fn workspace_length(by_qr: bool, rows: usize, cols: usize) -> usize {
+fn workspace_length(by: By, rows: usize, cols: usize) -> usize {
     let mut sizes = Sizes::default();
     sizes.columns(cols);
     sizes.rows(rows);
     if sizes.first() != 0 && !fault::is(Fault::WorkspaceFormulaBeyondLimits) {
         return 0;
     }
-    needed_by(by_qr, rows, cols)
+    needed_by(by, rows, cols)
 }
 
 #[unsafe(no_mangle)]
 pub extern "C" fn dapmotar_strlsq_workspace(n_rows: usize, n_cols: usize) -> usize {
-    workspace_length(false, n_rows, n_cols)
+    workspace_length(By::Normal, n_rows, n_cols)
 }
 
 #[unsafe(no_mangle)]
 pub extern "C" fn dapmotar_strlsq_qr_workspace(n_rows: usize, n_cols: usize) -> usize {
-    workspace_length(true, n_rows, n_cols)
+    workspace_length(By::Qr, n_rows, n_cols)
+}
+
+#[unsafe(no_mangle)]
+pub extern "C" fn dapmotar_strlsq_marquardt_workspace(n_rows: usize, n_cols: usize) -> usize {
+    workspace_length(By::Marquardt, n_rows, n_cols)
 }
 
 #[unsafe(no_mangle)]

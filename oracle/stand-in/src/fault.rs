@@ -73,6 +73,10 @@ faults! {
     JtjRemainderLeftOut
     JtjDiagonalLeftOut
     JtjWrongHalfMirrored
+    MarquardtLessOrEqual
+    MarquardtNeverAlone
+    MarquardtAlwaysAlone
+    MarquardtTwice
     // Cholesky.
     CholeskyNanRefused
     CholeskyLessOnly
@@ -92,6 +96,15 @@ faults! {
     LuBackTestsDiagonal
     LuOnOverwritten
     LuFactorsNotKept
+    // The inverse.
+    InverseOutputClearedAtEight
+    InverseWorkspaceLeftAtEight
+    InverseColumnAsRow
+    InverseUpperMirrored
+    InverseUnitElsewhere
+    InverseOutputBeforeMatrix
+    InverseWorkspaceBeforeOutput
+    InverseWorkspaceOfNormal
     // QR.
     QrShareFromZero
     QtShareFromZero
@@ -144,6 +157,8 @@ faults! {
     FitsOnce
     LambdaNotRooted
     LambdaOnlyAtFirst
+    MarquardtOnlyAtFirst
+    MarquardtNotAtFirst
     KeptDamped
     BlockByPlace
     ProductsByPlace
@@ -172,7 +187,8 @@ faults! {
     FrameUpperAccepted
     FrameCrlfAccepted
     FrameTailAccepted
-    FrameThirdSolver
+    FrameThirdMissing
+    FrameFourthSolver
     FrameNoColumnsNoRows
     FrameColumnLimit
     FrameRowLimit

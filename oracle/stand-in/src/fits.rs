@@ -1,15 +1,23 @@
-//! Both fits over one loop.
+//! The fits over one loop.
 
-use crate::builders::{PAGE, damp, jtr, pair_sums};
+use crate::builders::{Damping, PAGE, damp, jtr, pair_sums};
 use crate::fault::{self, Fault};
 use crate::qr::least_squares;
 use crate::root::{abs, sqrt};
 use crate::square::normal_equations;
 
+/// How a fit solves.
+#[derive(Clone, Copy, PartialEq, Eq)]
+pub enum By {
+    Normal,
+    Qr,
+    Marquardt,
+}
+
 /// What is fitted.
 #[derive(Clone, Copy)]
 pub struct Fit<'a> {
-    pub by_qr: bool,
+    pub by: By,
     pub theta: &'a [f64],
     pub rows: usize,
     pub cols: usize,
@@ -28,11 +36,11 @@ fn bit(j: usize) -> u64 {
 }
 
 /// The workspace that a fit needs, sizes not looked at.
-pub fn workspace(by_qr: bool, r: usize, c: usize) -> usize {
+pub fn workspace(by: By, r: usize, c: usize) -> usize {
     let twice = |x: usize| x.wrapping_mul(2);
     let thrice = |x: usize| x.wrapping_mul(3);
     let rows = r.wrapping_add(c);
-    if by_qr {
+    if by == By::Qr {
         twice(rows.wrapping_mul(c))
             .wrapping_add(thrice(rows))
             .wrapping_add(thrice(c))
@@ -60,7 +68,7 @@ impl Kept {
         let targets: Vec<f64> = (0..fit.rows).map(|row| fit.target[target(row)]).collect();
         jtr(fit.theta, &targets, fit.rows, c, &mut products);
         if fault::is(Fault::KeptDamped) {
-            damp(&mut sums, c, fit.lambda);
+            damp(&mut sums, c, fit.damping(false), fit.lambda);
         }
         Kept { sums, products }
     }
@@ -134,7 +142,7 @@ impl Fit<'_> {
             return (0, 0);
         }
         let all: Vec<usize> = (0..self.cols).collect();
-        let mut kept = (!self.by_qr).then(|| Kept::of(self));
+        let mut kept = (self.by != By::Qr).then(|| Kept::of(self));
         let values = match self.solve(&mut kept, &all, false) {
             Ok(values) => values,
             Err(col) => {
@@ -175,7 +183,7 @@ impl Fit<'_> {
             let values = match self.solve(&mut kept, &terms, true) {
                 Ok(values) => values,
                 Err(col) => {
-                    let place = if self.by_qr {
+                    let place = if self.by == By::Qr {
                         Fault::TermIsPlaceByQr
                     } else {
                         Fault::TermIsPlace
@@ -231,6 +239,20 @@ impl Fit<'_> {
         (0..self.cols).filter(kept).fold(0, |w, j| w | bit(j))
     }
 
+    /// How the normal equations are damped, at first and again.
+    fn damping(&self, again: bool) -> Damping {
+        let other = if again {
+            Fault::MarquardtOnlyAtFirst
+        } else {
+            Fault::MarquardtNotAtFirst
+        };
+        if self.by == By::Marquardt && !fault::is(other) {
+            Damping::InProportion
+        } else {
+            Damping::Plain
+        }
+    }
+
     /// The solve over some columns, or the place among them at which it refused.
     fn solve(
         &self,
@@ -246,7 +268,7 @@ impl Fit<'_> {
         let (r, c) = (self.rows, terms.len());
         if let Some(kept) = kept {
             let (mut a, mut b) = kept.block(terms);
-            damp(&mut a, c, lambda);
+            damp(&mut a, c, self.damping(again), lambda);
             normal_equations(&a, &mut b, c)?;
             if fault::is(Fault::ProductsOverwritten) {
                 kept.products[..c].copy_from_slice(&b);

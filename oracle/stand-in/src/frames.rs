@@ -1,7 +1,7 @@
 //! The bench program's exchange.
 
 use crate::fault::{self, Fault};
-use crate::fits::Fit;
+use crate::fits::{By, Fit};
 
 pub fn respond(input: &[u8]) -> Vec<u8> {
     match problem(input) {
@@ -15,7 +15,7 @@ pub fn respond(input: &[u8]) -> Vec<u8> {
 
 /// A header's numbers and the rows.
 struct Problem {
-    by_qr: bool,
+    by: By,
     rows: usize,
     cols: usize,
     max_iter: usize,
@@ -29,7 +29,7 @@ impl Problem {
     fn answer(&self) -> String {
         let mut coeffs = vec![0.0; self.cols];
         let fit = Fit {
-            by_qr: self.by_qr,
+            by: self.by,
             theta: &self.theta,
             rows: self.rows,
             cols: self.cols,
@@ -78,9 +78,13 @@ fn problem(input: &[u8]) -> Result<Problem, u64> {
     }
     let header = header.ok_or(11u64)?;
     let code = number(&header[..2]);
-    if code != 1 && code != 2 && !(code == 3 && fault::is(Fault::FrameThirdSolver)) {
-        return Err(11);
-    }
+    let by = match code {
+        1 => By::Normal,
+        2 => By::Qr,
+        3 if !fault::is(Fault::FrameThirdMissing) => By::Marquardt,
+        4 if fault::is(Fault::FrameFourthSolver) => By::Marquardt,
+        _ => return Err(11),
+    };
     let rows = number(&header[2..6]) as usize;
     let cols = number(&header[6..8]) as usize;
     let max_iter = number(&header[8..12]) as usize;
@@ -116,7 +120,7 @@ fn problem(input: &[u8]) -> Result<Problem, u64> {
         return Err(11);
     }
     Ok(Problem {
-        by_qr: code == 2,
+        by,
         rows,
         cols,
         max_iter,

@@ -84,6 +84,21 @@ impl Sizes {
         } else {
             [1, 2, 3, 4, 5, 6, 10, 7]
         };
+        self.first_of(order)
+    }
+
+    /// The first that applies to the inverse.
+    pub fn first_of_inverse(&self) -> u64 {
+        if fault::is(Fault::InverseOutputBeforeMatrix) {
+            self.first_of([1, 6, 4, 7])
+        } else if fault::is(Fault::InverseWorkspaceBeforeOutput) {
+            self.first_of([1, 4, 7, 6])
+        } else {
+            self.first()
+        }
+    }
+
+    fn first_of<const N: usize>(&self, order: [u64; N]) -> u64 {
         order
             .into_iter()
             .find(|number| self.0.contains(number))
@@ -91,7 +106,7 @@ impl Sizes {
     }
 }
 
-/// The workspace after an accepted call and after 9.
+/// The workspace after an accepted call and after 8 and 9.
 pub fn clear(workspace: &mut [f64], needed: usize) {
     if fault::is(Fault::WorkspaceNotCleared) {
         return;

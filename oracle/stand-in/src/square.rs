@@ -1,10 +1,21 @@
-//! Cholesky, LU and the normal equations. Each says at which column it refused.
+//! Cholesky, LU, the normal equations and the inverse. Each says at which column it refused.
 
 use crate::fault::{self, Fault};
 use crate::root::{abs, sqrt};
 
 /// Cholesky in place.
 pub fn cholesky(a: &mut [f64], b: &mut [f64], n: usize) -> Result<(), usize> {
+    let factored = factor(a, n);
+    if factored.is_ok() {
+        substitute(a, b, n);
+    } else if fault::is(Fault::CholeskyRightHandSideLost) && n > 0 {
+        b[0] = 0.0;
+    }
+    factored
+}
+
+/// The factor, on and below the diagonal.
+fn factor(a: &mut [f64], n: usize) -> Result<(), usize> {
     let bound = 1e-14 * scale(a, n);
     for j in 0..n {
         let sum = (0..j).fold(a[j * n + j], |s, k| s - a[j * n + k] * a[j * n + k]);
@@ -19,9 +30,6 @@ pub fn cholesky(a: &mut [f64], b: &mut [f64], n: usize) -> Result<(), usize> {
             if fault::is(Fault::CholeskyRefusedColumnWritten) {
                 a[j * n + j] = sum;
             }
-            if fault::is(Fault::CholeskyRightHandSideLost) && n > 0 {
-                b[0] = 0.0;
-            }
             return Err(j);
         }
         a[j * n + j] = sqrt(sum);
@@ -33,11 +41,39 @@ pub fn cholesky(a: &mut [f64], b: &mut [f64], n: usize) -> Result<(), usize> {
             }
         }
     }
+    Ok(())
+}
+
+/// Both substitutions, forward and back.
+fn substitute(l: &[f64], b: &mut [f64], n: usize) {
     for i in 0..n {
-        b[i] = (0..i).fold(b[i], |s, k| s - a[i * n + k] * b[k]) / a[i * n + i];
+        b[i] = (0..i).fold(b[i], |s, k| s - l[i * n + k] * b[k]) / l[i * n + i];
     }
     for i in (0..n).rev() {
-        b[i] = (i + 1..n).fold(b[i], |s, k| s - a[k * n + i] * b[k]) / a[i * n + i];
+        b[i] = (i + 1..n).fold(b[i], |s, k| s - l[k * n + i] * b[k]) / l[i * n + i];
+    }
+}
+
+/// The inverse of a, a column at a time, into `out`.
+pub fn invert(a: &[f64], n: usize, out: &mut [f64]) -> Result<(), usize> {
+    let mut l = a[..n * n].to_vec();
+    let factored = factor(&mut l, n);
+    if factored.is_err() {
+        if fault::is(Fault::InverseOutputClearedAtEight) {
+            out.fill(0.0);
+        }
+        return factored;
+    }
+    for j in 0..n {
+        let mut column = vec![0.0; n];
+        column[fault::or(j, Fault::InverseUnitElsewhere, (j + 1) % n)] = 1.0;
+        substitute(&l, &mut column, n);
+        for i in 0..n {
+            out[fault::or(i * n + j, Fault::InverseColumnAsRow, j * n + i)] = column[i];
+        }
+    }
+    if fault::is(Fault::InverseUpperMirrored) {
+        (0..n).for_each(|i| (0..i).for_each(|j| out[j * n + i] = out[i * n + j]));
     }
     Ok(())
 }

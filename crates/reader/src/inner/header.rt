@@ -67,5 +67,8 @@ pub fn read_header(s: &[u8]) -> Head
     if code == 2 {
         return Head::Good(fields(s, Solver::Qr));
     }
+    if code == 3 {
+        return Head::Good(fields(s, Solver::Marquardt));
+    }
     Head::Wrong
 }

@@ -1,4 +1,4 @@
-//! Both fits.
+//! The fits.
 
 use crate::call::{Call, Function};
 use crate::matrices;
@@ -28,13 +28,18 @@ pub const STRLSQ_QR: Function = Function {
     label,
 };
 
+pub const STRLSQ_MARQUARDT: Function = Function {
+    name: "strlsq_marquardt",
+    make: |rng| make(rng, Solver::Marquardt),
+    library: |call| library(call, raw::dapmotar_strlsq_marquardt),
+    model: |call| run_model(call, Solver::Marquardt),
+    ..STRLSQ
+};
+
 /// Calls of `strlsq` that mostly refit several times.
 pub const STRLSQ_REFITS: Function = Function {
     name: "strlsq_refits",
-    make: |rng| {
-        let problem = several_refits(rng);
-        of(rng, Plan::RIGHT, Solver::Normal, problem)
-    },
+    make: |rng| several_refits(rng, Solver::Normal),
     ..STRLSQ
 };
 
@@ -47,6 +52,13 @@ pub const STRLSQ_PAGES: Function = Function {
         of(rng, Plan::RIGHT, Solver::Normal, problem)
     },
     ..STRLSQ
+};
+
+/// Calls of `strlsq_marquardt` that do.
+pub const MARQUARDT_REFITS: Function = Function {
+    name: "marquardt_refits",
+    make: |rng| several_refits(rng, Solver::Marquardt),
+    ..STRLSQ_MARQUARDT
 };
 
 /// The most that a fit takes.
@@ -78,13 +90,14 @@ fn right(rng: &mut Rng, plan: Plan, solver: Solver) -> Call {
 }
 
 /// Terms that fall in turn, and rounds for some of them.
-fn several_refits(rng: &mut Rng) -> Problem {
-    loop {
+fn several_refits(rng: &mut Rng, solver: Solver) -> Call {
+    let problem = loop {
         let problem = special_kinds::falling(rng, SIZE);
         if problem.cols > 2 && problem.setup.max_iter > 1 {
-            return problem;
+            break problem;
         }
-    }
+    };
+    of(rng, Plan::RIGHT, solver, problem)
 }
 
 fn of(rng: &mut Rng, plan: Plan, solver: Solver, problem: Problem) -> Call {

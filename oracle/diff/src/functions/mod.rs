@@ -9,24 +9,30 @@ mod square;
 use crate::call::Function;
 pub use fits::SIZE as FIT_SIZE;
 
-/// Every export; `jtj` and `strlsq` once more at the sizes of a walk by pages, and `strlsq` with many refits.
-pub const ALL: [Function; 16] = [
+/// Every export; `jtj` and `strlsq` once more at the sizes of a walk by pages, and the fits by the normal equations
+/// with many refits.
+pub const ALL: [Function; 21] = [
     scalars::SQRT,
     scalars::ABS,
     builders::JTJ,
     builders::JTJ_PAGES,
+    builders::JTJ_MARQUARDT,
     builders::JTR,
     square::CHOLESKY,
     square::LU,
     square::NORMAL_EQUATIONS,
+    square::INVERT,
     qr::QR,
     qr::LEAST_SQUARES,
     fits::STRLSQ,
     fits::STRLSQ_QR,
+    fits::STRLSQ_MARQUARDT,
     fits::STRLSQ_REFITS,
     fits::STRLSQ_PAGES,
+    fits::MARQUARDT_REFITS,
     scalars::STRLSQ_WORKSPACE,
     scalars::STRLSQ_QR_WORKSPACE,
+    scalars::STRLSQ_MARQUARDT_WORKSPACE,
 ];
 
 /// The answer of a model that gives no report.

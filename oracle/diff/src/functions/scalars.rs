@@ -42,6 +42,13 @@ pub const STRLSQ_QR_WORKSPACE: Function = Function {
     label: length_label,
 };
 
+pub const STRLSQ_MARQUARDT_WORKSPACE: Function = Function {
+    name: "strlsq_marquardt_workspace",
+    library: |call| raw::dapmotar_strlsq_marquardt_workspace(call.sizes[0], call.sizes[1]) as u64,
+    model: |call| model::fit_workspace(Solver::Marquardt, call.sizes[0], call.sizes[1]) as u64,
+    ..STRLSQ_WORKSPACE
+};
+
 fn make_float(rng: &mut Rng) -> Call {
     let mut x = floats::any(rng);
     if rng.once_in(2) {

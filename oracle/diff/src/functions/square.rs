@@ -1,4 +1,4 @@
-//! Cholesky, LU and the normal equations.
+//! Cholesky, LU, the normal equations and the inverse.
 
 use super::number;
 use crate::call::{Call, Function, number_label};
@@ -64,6 +64,23 @@ pub const NORMAL_EQUATIONS: Function = Function {
     label: number_label,
 };
 
+pub const INVERT: Function = Function {
+    name: "invert_spd",
+    make: make_invert,
+    library: library_invert,
+    model: |call| {
+        let (workspace, _) = call.workspace.as_mut().expect("it has one");
+        number(model::invert_spd(
+            call.reads[0].numbers(),
+            call.sizes[0],
+            call.writes[0].numbers_mut(),
+            workspace.numbers_mut(),
+            &mut call.column[0],
+        ))
+    },
+    label: number_label,
+};
+
 /// A solve of the matrix and the right-hand side, both written.
 fn in_place(
     call: &mut Call,
@@ -75,15 +92,20 @@ fn in_place(
     solve(a, b, call.sizes[0], &mut call.column)
 }
 
-/// A matrix of n by n, or of another length, and a right-hand side.
+/// A matrix of n by n, or of another length.
+fn matrix(rng: &mut Rng, n: usize, len: usize) -> Vec<f64> {
+    if n <= MAX_COLS && len == n * n {
+        matrices::square(rng, n)
+    } else {
+        matrices::drawn(rng, len)
+    }
+}
+
+/// Such a matrix and a right-hand side.
 fn system(rng: &mut Rng, plan: Plan, n: usize) -> (Slice, Slice) {
     let a_len = plan.length(rng, n.checked_mul(n));
     let b_len = plan.length(rng, Some(n));
-    let a = if n <= MAX_COLS && a_len == n * n {
-        matrices::square(rng, n)
-    } else {
-        matrices::drawn(rng, a_len)
-    };
+    let a = matrix(rng, n, a_len);
     let b = matrices::drawn(rng, b_len);
     (given(rng, "a", &a), given(rng, "b", &b))
 }
@@ -107,14 +129,25 @@ fn make_normal_equations(rng: &mut Rng) -> Call {
     let plan = Plan::new(rng);
     let n = plan.size(rng, MAX_COLS);
     let (a, b) = system(rng, plan, n);
-    let needed = n.checked_mul(n);
+    with_workspace(rng, plan, n, n.checked_mul(n), a, b)
+}
+
+/// The matrix is read, a slice is written, and so many numbers are needed.
+fn with_workspace(
+    rng: &mut Rng,
+    plan: Plan,
+    n: usize,
+    needed: Option<usize>,
+    read: Slice,
+    written: Slice,
+) -> Call {
     let workspace_len = plan.workspace(rng, needed);
     let workspace = junk(rng, "workspace", workspace_len);
     Call {
         sizes: vec![n],
         floats: vec![],
-        reads: vec![a],
-        writes: vec![b],
+        reads: vec![read],
+        writes: vec![written],
         workspace: Some((workspace, needed.unwrap_or(usize::MAX))),
         report: [0; 4],
         column: [rng.word()],
@@ -131,6 +164,35 @@ fn library_normal_equations(call: &mut Call) -> u64 {
             b.ptr(),
             b.len(),
             call.sizes[0],
+            workspace.ptr(),
+            workspace.len(),
+            &mut call.column,
+        )
+    }
+}
+
+fn make_invert(rng: &mut Rng) -> Call {
+    let plan = Plan::new(rng);
+    let n = plan.size(rng, MAX_COLS);
+    let cells = n.checked_mul(n);
+    let a_len = plan.length(rng, cells);
+    let out_len = plan.length(rng, cells);
+    let a = matrix(rng, n, a_len);
+    let (a, out) = (given(rng, "a", &a), junk(rng, "out", out_len));
+    let needed = cells.and_then(|cells| cells.checked_add(n));
+    with_workspace(rng, plan, n, needed, a, out)
+}
+
+fn library_invert(call: &mut Call) -> u64 {
+    let (a, out) = (&mut call.reads[0], &mut call.writes[0]);
+    let (workspace, _) = call.workspace.as_mut().expect("it has one");
+    unsafe {
+        raw::dapmotar_invert_spd(
+            a.ptr(),
+            a.len(),
+            call.sizes[0],
+            out.ptr(),
+            out.len(),
             workspace.ptr(),
             workspace.len(),
             &mut call.column,

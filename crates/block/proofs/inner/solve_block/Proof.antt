@@ -8,7 +8,7 @@ use lib.ListN.{length}
 use denote.Ref.{now}
 use Rattle.places.specs.Columns.{Names}
 use Rattle.places.specs.ColumnLaws.{names-in}
-use Rattle.sums.specs.Products.{ridge}
+use Rattle.sums.specs.Inner.{damps}
 use Rattle.block.proofs.Chosen.{block-listed, side-listed}
 use Rattle.block.proofs.inner.solve_block.Statement.{statement}
 use Rattle.block.proofs.inner.solve_block.Tie as tie
@@ -63,7 +63,7 @@ returns c =
     let l = listed .list-terms .ensures in
     let made = solve .solve-listed .ensures in
     record {
-      values = rw (count, side .take-side .ensures, begin .pre .2, block-listed (a .n-cols) (a .support .0) l ws (ridge (a .lambda)), side-listed (a .n-cols) (a .support .0) l ws)
+      values = rw (count, side .take-side .ensures, begin .pre .2, block-listed (a .n-cols) (a .support .0) l ws (damps (a .damping)), side-listed (a .n-cols) (a .support .0) l ws)
           at (made .values);
       kept = made .kept;
     }

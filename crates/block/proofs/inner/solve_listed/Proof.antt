@@ -8,7 +8,8 @@ use lib.Ieee.{Float}
 use denote.Ref.{now}
 use Rattle.steps.specs.Space.{withPart}
 use Rattle.refusal.specs.Answers.{told}
-use Rattle.sums.specs.Products.{ridge, jtj-matrix}
+use Rattle.sums.specs.Products.{jtj-matrix}
+use Rattle.sums.specs.Inner.{damps}
 use Rattle.sums.specs.Kept.{kept-size}
 use Rattle.cholesky.specs.Cholesky.{cholesky}
 use Rattle.normal.specs.Ends.{normal-goes, normal-by-lu}
@@ -32,7 +33,7 @@ module _ (c : tie.After-cholesky) where
   room = start .pre
 
   abbrev damping : Float → Float
-  damping = ridge (start .args .lambda)
+  damping = damps (start .args .damping)
 
   -- the workspace with the block, and what Cholesky left of that
   abbrev block : List Float

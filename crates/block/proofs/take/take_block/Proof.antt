@@ -2,7 +2,7 @@
 use mathlib.Core.Path.{refl, _∙_}
 use borrow.Author.Needs.{needs}
 use Rattle.steps.specs.Space.{withPart}
-use Rattle.sums.specs.Products.{ridge}
+use Rattle.sums.specs.Inner.{damps}
 use Rattle.block.proofs.Again.{left-damped}
 use Rattle.block.proofs.take.take_block.Statement.{statement}
 use Rattle.block.proofs.take.take_block.Tie as tie
@@ -46,7 +46,7 @@ returns c =
     let done = c .before .before .damp in
     let rows = c .before .before .before .before .before .before .block-rows in
     let start = c .before .before .before .before .before .before .before .before .before .before in
-    left-damped (rows .last .0) (done .last .0) (rows .kept .0 ∙ start .pre .long) (done .kept .0) (rows .ensures) (ridge (start .args .lambda)) _ refl (done .ensures)
+    left-damped (rows .last .0) (done .last .0) (rows .kept .0 ∙ start .pre .long) (done .kept .0) (rows .ensures) (damps (start .args .damping)) _ refl (done .ensures)
 
 pub take-block-spec : {M : Type 1} → statement M
 take-block-spec =

@@ -1,19 +1,17 @@
 -- `chol_back` meets its contract. The loop's invariant: what is left from row i on gives the whole answer.
 use mathlib.Core.Path.{_≡_, refl, sym, _∙_}
-use Prim.Native.Nat.{_+_, _≤_}
+use Prim.Native.Nat.{_≤_}
 use native.Mathlib.Omega.{arith}
 use lib.Arith.{digits-lt}
 use lib.ListN.{length, set, length-set}
-use Rattle.steps.specs.Num.{times, over, at, cell}
 use Rattle.steps.specs.Loops.{down-from, down-none, down-more}
-use Rattle.steps.specs.Sums.{less-sum}
-use Rattle.cholesky.specs.Cholesky.{chol-back}
+use Rattle.cholesky.specs.Cholesky.{back-at, chol-back}
 use Rattle.cholesky.proofs.inner.chol_back.Statement.{statement}
 use Rattle.cholesky.proofs.inner.chol_back.Tie as tie
 
 abbrev Inv-loop : tie.InvT-loop
 Inv-loop l b₀ n i₀ b i =
-    (i ≤ n) × (length b ≡ n) × (down-from i (λ r x. set x r (over (less-sum (at x r) (r + 1) n (λ k. times (cell n l k r) (at x k))) (cell n l r r))) b ≡ chol-back n l b₀)
+    (i ≤ n) × (length b ≡ n) × (down-from i (λ r x. set x r (back-at n l r x)) b ≡ chol-back n l b₀)
 
 abbrev μ-loop : tie.MeasureT-loop
 μ-loop l b₀ n i₀ b i = i
@@ -41,6 +39,7 @@ loop-less : tie.Need-loop-less Inv-loop μ-loop
 loop-less c = omega (arith, c .before .before .before)
 
 loop-again : tie.Need-loop-again Inv-loop μ-loop
+unfolding back-at
 loop-again c =
     let within = c .before .before .before in
     let turn = within .before .loop in (

@@ -4,15 +4,13 @@ use Prim.Native.Nat.{_-_, _≤_}
 use native.Mathlib.Omega.{arith}
 use lib.Arith.{digits-lt}
 use lib.ListN.{length, set, length-set}
-use Rattle.steps.specs.Num.{times, over, at, cell}
 use Rattle.steps.specs.Loops.{loop, loop-none, loop-more, loop-end}
-use Rattle.steps.specs.Sums.{less-sum}
-use Rattle.cholesky.specs.Cholesky.{chol-forward}
+use Rattle.cholesky.specs.Cholesky.{forward-at, chol-forward}
 use Rattle.cholesky.proofs.inner.chol_forward.Statement.{statement}
 use Rattle.cholesky.proofs.inner.chol_forward.Tie as tie
 
 abbrev Inv-loop : tie.InvT-loop
-Inv-loop l b₀ n i₀ b i = (i ≤ n) × (length b ≡ n) × (b ≡ loop 0 i (λ r x. set x r (over (less-sum (at x r) 0 r (λ k. times (cell n l r k) (at x k))) (cell n l r r))) b₀)
+Inv-loop l b₀ n i₀ b i = (i ≤ n) × (length b ≡ n) × (b ≡ loop 0 i (λ r x. set x r (forward-at n l r x)) b₀)
 
 abbrev μ-loop : tie.MeasureT-loop
 μ-loop l b₀ n i₀ b i = n - i
@@ -44,6 +42,7 @@ loop-less : tie.Need-loop-less Inv-loop μ-loop
 loop-less c = omega (arith, c .before .before .before)
 
 loop-again : tie.Need-loop-again Inv-loop μ-loop
+unfolding forward-at
 loop-again c =
     let turn = c .before .before .before .before .loop in (
       omega (arith, c .before .before .before),

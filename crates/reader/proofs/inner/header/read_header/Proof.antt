@@ -46,11 +46,30 @@ returns-3 c =
     let tested = c .before .before .before .before in
     simp (is-formed tested, ← c .before .before .before .number-at .ensures, ne-eqb _ _ (c .before .before .if2 .left), eq-eqb _ _ (c .before .if3 .taken), ← c .fields2 .ensures)
 
+fields-requires-3 : tie.Need-fields-requires-3
+fields-requires-3 c κs = digits (c .before .before .before .before)
+
 returns-4 : tie.Need-returns-4
 unfolding head-of
 returns-4 c =
-    let tested = c .before .before .before in
-    simp (is-formed tested, ← c .before .before .number-at .ensures, ne-eqb _ _ (c .before .if2 .left), ne-eqb _ _ (c .if3 .left))
+    let third = c .before in
+    let second = third .before in
+    let first = second .before in
+    simp (
+      is-formed (first .before .before),
+      ← first .before .number-at .ensures,
+      ne-eqb _ _ (first .if2 .left),
+      ne-eqb _ _ (second .if3 .left),
+      eq-eqb _ _ (third .if4 .taken),
+      ← c .fields3 .ensures,
+    )
+
+returns-5 : tie.Need-returns-5
+unfolding head-of
+returns-5 c =
+    let second = c .before in
+    let first = second .before in
+    simp (is-formed (first .before .before), ← first .before .number-at .ensures, ne-eqb _ _ (first .if2 .left), ne-eqb _ _ (second .if3 .left), ne-eqb _ _ (c .if4 .left))
 
 pub read-header-spec : {M : Type 1} → statement M
-read-header-spec = tie.close (tie.spec formed-requires returns number-at-requires fields-requires returns-2 fields-requires-2 returns-3 returns-4)
+read-header-spec = tie.close (tie.spec formed-requires returns number-at-requires fields-requires returns-2 fields-requires-2 returns-3 fields-requires-3 returns-4 returns-5)

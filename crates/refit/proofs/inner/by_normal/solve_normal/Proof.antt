@@ -8,7 +8,7 @@ use denote.Ref.{now}
 use lib.ListN.{length}
 use Rattle.steps.specs.Space.{withPart}
 use Rattle.refusal.specs.Answers.{solution}
-use Rattle.sums.specs.Products.{ridge}
+use Rattle.sums.specs.Inner.{damps}
 use Rattle.sums.specs.Kept.{kept-size}
 use Rattle.rule.specs.Fits.{by-sums}
 use Rattle.rule.specs.Kept.{from-kept}
@@ -29,16 +29,16 @@ few-requires : tie.Need-few-requires
 few-requires c κs = search needs
 
 mul-e : tie.Need-mul-e
-mul-e c = let start = c .before .before .before .before in rw (c .few .ensures) (omega (arith, start .pre .0, small start))
+mul-e c = let start = c .before .before .before in rw (c .few .ensures) (omega (arith, start .pre .0, small start))
 
 add-e : tie.Need-add-e
-add-e c = let start = c .before .before .before .before in rw (c .few .ensures) (omega (arith, start .pre .0, small start))
+add-e c = let start = c .before .before .before in rw (c .few .ensures) (omega (arith, start .pre .0, small start))
 
 mul-e-2 : tie.Need-mul-e-2
 mul-e-2 c = search needs
 
 add-e-2 : tie.Need-add-e-2
-add-e-2 c = let start = c .before .before .before .before in rw (c .few .ensures) (omega (arith, start .pre .0, small start, start .pre .3))
+add-e-2 c = let start = c .before .before .before in rw (c .few .ensures) (omega (arith, start .pre .0, small start, start .pre .3))
 
 sub-solve-block : tie.Need-sub-solve-block
 sub-solve-block c = search needs
@@ -47,12 +47,12 @@ part-solve-block-start : tie.Need-part-solve-block-start
 part-solve-block-start c = search needs
 
 part-solve-block-end : tie.Need-part-solve-block-end
-part-solve-block-end c = rw (c .few .ensures) (c .before .before .before .before .pre .3)
+part-solve-block-end c = rw (c .few .ensures) (c .before .before .before .pre .3)
 
 solve-block-requires : tie.Need-solve-block-requires
 solve-block-requires c κs =
     let told = c .before .before in
-    let start = told .before .before .before .before in
+    let start = told .before .before .before in
     let e = room start in
     rw (told .few .ensures) (start .pre .0, start .pre .1, start .pre .2, length-head e (now (start .args .ws)) (start .pre .3))
 
@@ -67,12 +67,12 @@ unfolding withPart from-kept by-sums
 returns c =
     let solve = c .before .before .before .before in
     let told = solve .before .before .before in
-    let start = told .before .before .before .before in
+    let start = told .before .before .before in
     let a = start .args in
     let ws = now (a .ws) in
     let made = rw (told .few .ensures) at (solve .solve-block .ensures) in
     let kept = rw (told .few .ensures) at (solve .solve-block .kept .0) in (
-      ap solution (made .values) ∙ from-lent (a .task .cols) (room start) ws (omega arith) (start .pre .3) (ridge (a .task .setup .lambda)) (a .support .0) (start .pre .1),
+      ap solution (made .values) ∙ from-lent (a .task .cols) (room start) ws (omega arith) (start .pre .3) (damps (a .damping)) (a .support .0) (start .pre .1),
       rw (told .few .ensures) (head-left (a .task .cols) (room start) ws (omega arith) (start .pre .3) (solve .solve-block .last .0) kept (made .kept)),
     )
 

@@ -1,10 +1,10 @@
--- `jtj` meets its contract: refused by its sizes, else the pair sums, damped.
+-- `jtj_by` meets its contract: refused by its sizes, else the pair sums, damped.
 use mathlib.Core.Path.{sym, _∙_}
 use borrow.Author.Needs.{needs}
 use Rattle.sums.specs.ProductLaws.{damped-table}
 use Rattle.builders.specs.Sizes.{jtj-fits}
-use Rattle.builders.proofs.jtj.Statement.{statement}
-use Rattle.builders.proofs.jtj.Tie as tie
+use Rattle.builders.proofs.jtj_by.Statement.{statement}
+use Rattle.builders.proofs.jtj_by.Tie as tie
 
 jtj-sizes-requires : tie.Need-jtj-sizes-requires
 jtj-sizes-requires c κs = search needs
@@ -45,7 +45,7 @@ returns-2 c =
       matrix = rw (done .damp .ensures, summed .jtj-sums .ensures) (damped-table _ _ _);
     }
 
-pub jtj-spec : {M : Type 1} → statement M
-jtj-spec =
+pub jtj-by-spec : {M : Type 1} → statement M
+jtj-by-spec =
     tie.close
     (tie.spec jtj-sizes-requires enum-told enum-told-2 returns jtj-sums-requires damp-requires same-length returns-2)

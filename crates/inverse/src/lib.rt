@@ -1,0 +1,3 @@
+// The inverse of a positive definite matrix, for `solve`: nothing here is a public call.
+pub mod inner;
+mod rows;
