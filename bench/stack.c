@@ -9,13 +9,14 @@
 
 enum { STACK = 1 << 20, ROWS = 4096, COLS = 64, PAINT = 0xa5 };
 
-static const char *const names[] = {"nothing", "jtj", "jtr", "cholesky", "lu", "normal", "qr", "least", "strlsq", "strlsq_qr", "respond", "sqrt", "invert", "strlsq_marquardt"};
-static unsigned char *stack, input[40000], answer[DAPMOTAR_ANSWER];
+static const char *const names[] = {"nothing", "jtj", "jtr", "cholesky", "lu", "normal", "qr", "least", "strlsq", "strlsq_qr", "respond", "sqrt", "invert", "strlsq_marquardt", "why", "respond_why"};
+static unsigned char *stack, input[40000], answer[DAPMOTAR_ANSWER], causes[DAPMOTAR_WHY_ANSWER];
 static size_t which, input_len;
 static double *theta, *target, *square, *values, *space;
 
 static void *call(void *unused) {
-    uint64_t report[4], column[1];
+    uint64_t report[4], column[1], cause[2];
+    double value[1];
     switch (which) {
     case 1: dapmotar_jtj(theta, ROWS * COLS, ROWS, COLS, 1e-6, square, COLS * COLS); break;
     case 2: dapmotar_jtr(theta, ROWS * COLS, target, ROWS, ROWS, COLS, values, COLS); break;
@@ -30,6 +31,8 @@ static void *call(void *unused) {
     case 11: dapmotar_sqrt(2.0); break;
     case 12: dapmotar_invert_spd(square, COLS * COLS, COLS, space, COLS * COLS, space + COLS * COLS, COLS * COLS + COLS, column); break;
     case 13: dapmotar_strlsq_marquardt(theta, ROWS * COLS, ROWS, COLS, target, ROWS, 0.25, 1e-6, 10, values, COLS, space, dapmotar_strlsq_marquardt_workspace(ROWS, COLS), report); break;
+    case 14: dapmotar_why(2, theta, ROWS * COLS, ROWS, COLS, target, ROWS, 0.25, 1e-6, 10, 1, values, COLS, space, dapmotar_strlsq_qr_workspace(ROWS, COLS), cause, value); break;
+    case 15: dapmotar_respond_why(input, input_len, causes); break;
     }
     return unused;
 }

@@ -5,7 +5,7 @@
  * docs/REFERENCE.md is the reference of what each call does.
  *
  * Slices.      A slice is a pointer and its length in numbers. A null pointer with length 0 is an empty slice.
- * Arrays       of a fixed length, report[4], column[1] and answer[DAPMOTAR_ANSWER], are never null.
+ * Arrays       of a fixed length, report[4], column[1], cause[2], value[1], answer[..], are never null.
  * Overlap.     What is written, slice or array, must not overlap anything else that is read or written.
  * Matrices     stand by rows: entry (i, j) of a matrix of n columns is number i*n + j.
  * Numbers      may have any bits: infinities, NaN, zeros of both signs. Each operation rounds once.
@@ -18,7 +18,8 @@
  * Answers.     0, or the number of the refusal: the first that applies, in the order below. No call traps.
  * Workspaces   are lent by the caller. They may be longer than needed. After an accepted call and after 8 and 9 they
  *              are +0.0 over the needed length; numbers past it are untouched.
- * Threads.     A call touches nothing but its arguments, and up to 20 KB of stack; dapmotar_respond up to 80 KB.
+ * Threads.     A call touches nothing but its arguments, and up to 20 KB of stack; dapmotar_respond and
+ *              dapmotar_respond_why up to 80 KB.
  */
 #ifndef DAPMOTAR_H
 #define DAPMOTAR_H
@@ -39,14 +40,16 @@ enum {
 };
 
 /*
- * Refusals, in the order in which they are looked for. All but 8 and 9 leave every slice, the report and the column
- * unchanged; what 8 and 9 leave is said at the calls that give them.
+ * Refusals, in the order in which they are looked for. All but 8 and 9 leave every slice, the report, the column, the
+ * cause and its value unchanged; what 8 and 9 leave is said at the calls that give them.
  */
 enum {
     DAPMOTAR_ACCEPTED = 0,
     DAPMOTAR_REFUSED_COLUMNS = 1,         /* columns above the limit */
     DAPMOTAR_REFUSED_ROWS = 2,            /* rows above the limit */
     DAPMOTAR_REFUSED_ROUNDS = 3,          /* max_iter above 1,000 */
+    DAPMOTAR_REFUSED_THRESHOLD = 12,      /* the threshold is not above zero, a NaN too: dapmotar_why only */
+    DAPMOTAR_REFUSED_TERM = 13,           /* the term is not below n_cols: dapmotar_why only */
     DAPMOTAR_REFUSED_MATRIX = 4,          /* the matrix is not rows * columns long */
     DAPMOTAR_REFUSED_RIGHT_HAND_SIDE = 5, /* the target or right-hand side is not as long as there are rows */
     DAPMOTAR_REFUSED_OUTPUT = 6,          /* an output has the wrong length */
@@ -54,7 +57,8 @@ enum {
     DAPMOTAR_REFUSED_WORKSPACE = 7,       /* the workspace is shorter than needed */
     DAPMOTAR_REFUSED_CHOLESKY = 8,        /* Cholesky refuses at a column: not positive definite */
     DAPMOTAR_REFUSED_SMALL_PIVOT = 9,     /* a small pivot or diagonal at a column: singular */
-    DAPMOTAR_REFUSED_MALFORMED = 11       /* a malformed frame: dapmotar_respond writes it, no call returns it */
+    DAPMOTAR_REFUSED_MALFORMED = 11       /* a malformed frame: dapmotar_respond and dapmotar_respond_why write it; an
+                                             unknown code: dapmotar_why returns it, first of all */
 };
 
 /* Why a fit ended: the first number of its report. After 1 and 3 its last number is the term at which the solve refused. */
@@ -185,6 +189,37 @@ size_t dapmotar_strlsq_workspace(size_t n_rows, size_t n_cols);
 size_t dapmotar_strlsq_qr_workspace(size_t n_rows, size_t n_cols);
 size_t dapmotar_strlsq_marquardt_workspace(size_t n_rows, size_t n_cols);
 
+/* The fits by their codes, as in a header. */
+enum {
+    DAPMOTAR_SOLVER_NORMAL = 1,   /* dapmotar_strlsq */
+    DAPMOTAR_SOLVER_QR = 2,       /* dapmotar_strlsq_qr */
+    DAPMOTAR_SOLVER_MARQUARDT = 3 /* dapmotar_strlsq_marquardt */
+};
+
+/* What became of a term: the first number of its cause. */
+enum {
+    DAPMOTAR_CAUSE_NO_DATA = 0,       /* there were no rows */
+    DAPMOTAR_CAUSE_FIRST_REFUSED = 1, /* the first solve was refused */
+    DAPMOTAR_CAUSE_KEPT = 2,          /* its final magnitude is at least the threshold */
+    DAPMOTAR_CAUSE_DROPPED = 3,       /* at the look before refit cause[1], with the coefficient value[0], which may be NaN;
+                                         cause[1] is one past the last refit where that look found no term at all */
+    DAPMOTAR_CAUSE_CLEARED = 4,       /* when refit cause[1] was refused */
+    DAPMOTAR_CAUSE_ZEROED = 5,        /* by the last pass, from value[0], which may be a zero of either sign */
+    DAPMOTAR_CAUSE_LEFT_NAN = 6       /* the rounds are used up, and its coefficient is a NaN */
+};
+
+/*
+ * Why was this term dropped? Runs the fit of that code, leaves coeffs and workspace as it does, and says what became of
+ * one term, a column of theta. cause: its code and a refit number, counted from 1; value: a coefficient. Each is zero
+ * (value +0.0) where the cause has none. Both are written only if the call is accepted.
+ * Workspace: as the fit's.
+ * Refusals: 11, 1, 2, 3, 12, 13, 4, 5, 6, 7.
+ */
+uint64_t dapmotar_why(uint64_t code, const double *theta, size_t theta_len, size_t n_rows, size_t n_cols,
+                      const double *target, size_t target_len, double threshold, double lambda, size_t max_iter,
+                      size_t term, double *coeffs, size_t coeffs_len, double *workspace, size_t workspace_len,
+                      uint64_t cause[2], double value[1]);
+
 /* The room for an answer of dapmotar_respond: a report's line, and a line for each of 16 coefficients. */
 enum { DAPMOTAR_ANSWER = 297 };
 
@@ -193,6 +228,12 @@ enum { DAPMOTAR_ANSWER = 297 };
  * it, and gives its length. Any bytes are an input; every answer fits.
  */
 size_t dapmotar_respond(const uint8_t *input, size_t input_len, uint8_t answer[DAPMOTAR_ANSWER]);
+
+/* The room for an answer of dapmotar_respond_why: a line for each of 16 terms. */
+enum { DAPMOTAR_WHY_ANSWER = 368 };
+
+/* The exchange of the program why, on the bench program's input: else as dapmotar_respond. */
+size_t dapmotar_respond_why(const uint8_t *input, size_t input_len, uint8_t answer[DAPMOTAR_WHY_ANSWER]);
 
 #ifdef __cplusplus
 }

@@ -1,10 +1,11 @@
-//! The examples of the bench program: a day's readings as a bench takes them, from a fixed seed.
+//! The examples of the programs: a day's readings as a bench takes them, from a fixed seed.
 
 use crate::fit::Stop;
 use crate::frames::{answered, write};
 use crate::problem::{Problem, Setup, Solver};
 use crate::rng::Rng;
 use crate::table::{f1, g8};
+use crate::why;
 use std::io;
 use std::path::Path;
 
@@ -26,7 +27,9 @@ pub fn all() -> Vec<Example> {
         example("last-round", f1(0.5, 1), Stop::Settled),
         example("no-round", f1(0.5, 0), Stop::OutOfRounds),
         example("eight-ports", eight_ports(), Stop::Settled),
-        example("one-by-one", one_by_one(), Stop::Settled),
+        example("one-by-one", one_by_one(5, 10), Stop::Settled),
+        example("one-by-one-two-rounds", one_by_one(5, 2), Stop::OutOfRounds),
+        example("all-fall", one_by_one(3, 10), Stop::Empty),
         example("in-series", in_series(0.0), Stop::FirstRefused),
         example("in-series-damped", in_series(0.0625), Stop::Settled),
         example("in-series-refit", g8(), Stop::RefitRefused),
@@ -37,19 +40,22 @@ pub fn all() -> Vec<Example> {
             Stop::Settled,
         ),
         example("dead-port", dead_port(), Stop::Settled),
-        example("nan-reading", nan_reading(), Stop::Empty),
+        example("nan-reading", nan_reading(10), Stop::Empty),
+        example("nan-left", nan_reading(0), Stop::OutOfRounds),
         example("no-rows", no_rows(), Stop::NoData),
+        example("no-threshold", f1(0.0, 10), Stop::Settled),
     ]
 }
 
-/// Writes NAME.frames and NAME.answer of each example to a folder.
+/// Writes NAME.frames of each example to a folder, with NAME.answer of the bench program and NAME.why of `why`.
 pub fn write_all(folder: &Path) -> io::Result<()> {
     std::fs::create_dir_all(folder)?;
     for example in all() {
         let input = write(&example.problem);
-        let (answer, _) = answered(&input);
-        std::fs::write(folder.join(format!("{}.frames", example.name)), input)?;
-        std::fs::write(folder.join(format!("{}.answer", example.name)), answer)?;
+        let name = |end| folder.join(format!("{}.{end}", example.name));
+        std::fs::write(name("answer"), answered(&input).0)?;
+        std::fs::write(name("why"), why::answered(&input).0)?;
+        std::fs::write(name("frames"), input)?;
     }
     Ok(())
 }
@@ -83,12 +89,13 @@ fn eight_ports() -> Problem {
     readings(Solver::Normal, 24, &shares, 0.2, setup(0.125, 1e-6))
 }
 
-/// Five ports, each of which also reads three quarters of the one before it. Port 0 is small; each time that a port is
-/// dropped, the one behind it takes over a part of its share and is small then.
-fn one_by_one() -> Problem {
-    let shares = [0.125, -0.25, 0.25, 1.0, -2.0];
-    let mut p = Problem::zeros(Solver::Normal, 5, 5, setup(0.2, 0.0));
-    for row in 0..5 {
+/// Up to five ports, each of which also reads three quarters of the one before it. Port 0 is small; each time that a
+/// port is dropped, the one behind it takes over a part of its share and is small then, but for the last two of five.
+fn one_by_one(ports: usize, max_iter: usize) -> Problem {
+    let shares = &[0.125, -0.25, 0.25, 1.0, -2.0][..ports];
+    let mut p = Problem::zeros(Solver::Normal, ports, ports, setup(0.2, 0.0));
+    p.setup.max_iter = max_iter;
+    for row in 0..ports {
         let mut before = 0.0;
         for (port, share) in shares.iter().enumerate() {
             let own = if row == port { 1.0 } else { 0.0 };
@@ -143,9 +150,10 @@ fn dead_port() -> Problem {
 }
 
 /// One reading of one port failed.
-fn nan_reading() -> Problem {
+fn nan_reading(max_iter: usize) -> Problem {
     let mut p = readings(Solver::Normal, 8, &[1.0, 0.5, -1.5], 0.01, setup(0.1, 0.0));
     p.set(5, 1, f64::NAN);
+    p.setup.max_iter = max_iter;
     p
 }
 

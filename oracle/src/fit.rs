@@ -1,10 +1,11 @@
-//! The three fits restated over one loop, so that stop, refits, kept word and refused term can be told.
+//! The three fits restated over one loop, so that stop, refits, kept word, refused term and each term's cause can be told.
 //!
 //! The published functions give the coefficients only. `fit` runs them too and stops the program if a single
 //! bit differs, so a report stands only beside coefficients that are the published ones. The third fit is not
 //! published: what runs in its place is the text of `strlsq` with `jtj_marquardt` for `jtj` (build.rs).
 
 use crate::bits::first_difference;
+use crate::cause::{Cause, Watch};
 use crate::columns;
 use crate::linalg;
 use crate::problem::{Problem, Setup, Solver};
@@ -53,6 +54,8 @@ pub const NO_TERM: u64 = 0xff;
 pub struct Fit {
     pub report: Report,
     pub coeffs: Vec<f64>,
+    /// Why each term was kept or not; it is told for a threshold above zero only.
+    pub causes: Vec<Cause>,
 }
 
 /// The fit of a problem with exact lengths and at most 64 columns, held against the published function.
@@ -101,12 +104,14 @@ pub fn fitted_by(p: &Problem, fit: Published) -> Vec<f64> {
 
 /// The fit by the rule.
 fn restated(p: &Problem) -> Fit {
+    let mut watch = Watch::new(p.cols);
     let Ran {
         stop,
         refits,
         term,
         mut coeffs,
-    } = rounds(p);
+    } = rounds(p, &mut watch);
+    let causes = watch.causes(stop, refits, &coeffs, p.setup.threshold);
     for c in &mut coeffs {
         if c.abs() < p.setup.threshold {
             *c = 0.0;
@@ -121,6 +126,7 @@ fn restated(p: &Problem) -> Fit {
             term,
         },
         coeffs,
+        causes,
     }
 }
 
@@ -132,7 +138,7 @@ struct Ran {
     coeffs: Vec<f64>,
 }
 
-fn rounds(p: &Problem) -> Ran {
+fn rounds(p: &Problem, watch: &mut Watch) -> Ran {
     let ran = |stop, refits, term, coeffs| Ran {
         stop,
         refits,
@@ -152,6 +158,7 @@ fn rounds(p: &Problem) -> Ran {
     let mut refits = 0;
     for _ in 0..p.setup.max_iter {
         let support = support_of(&coeffs, p.setup.threshold);
+        watch.look(refits + 1, support, &coeffs);
         if support == 0 {
             return ran(Stop::Empty, refits, NO_TERM, zeros);
         }

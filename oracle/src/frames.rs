@@ -50,13 +50,16 @@ pub fn refusal_text(refusal: Refusal) -> String {
 
 /// The problem that an input holds, or the first refusal: malformed header, 1, 2, 3, malformed rows or tail.
 pub fn read(input: &[u8]) -> Result<Problem, Refusal> {
+    read_if(input, |_| Ok(()))
+}
+
+/// The same where a setup may be refused, directly after 3.
+pub fn read_if(
+    input: &[u8],
+    accepts: fn(Setup) -> Result<(), Refusal>,
+) -> Result<Problem, Refusal> {
     let (header, rest) = frame(input, HEADER_DIGITS).ok_or(Refusal::MalformedFrame)?;
-    let solver = match number(&header[0..2]) {
-        1 => Solver::Normal,
-        2 => Solver::Qr,
-        3 => Solver::Marquardt,
-        _ => return Err(Refusal::MalformedFrame),
-    };
+    let solver = Solver::of_code(number(&header[0..2])).ok_or(Refusal::MalformedFrame)?;
     let rows = number(&header[2..6]) as usize;
     let cols = number(&header[6..8]) as usize;
     let setup = Setup {
@@ -73,6 +76,7 @@ pub fn read(input: &[u8]) -> Result<Problem, Refusal> {
     if setup.max_iter > MAX_ROUNDS {
         return Err(Refusal::Rounds);
     }
+    accepts(setup)?;
     let mut problem = Problem::zeros(solver, rows, cols, setup);
     read_rows(rest, &mut problem).ok_or(Refusal::MalformedFrame)?;
     Ok(problem)

@@ -6,8 +6,10 @@
 include!(concat!(env!("OUT_DIR"), "/published.rs"));
 
 pub mod bits;
+pub mod cause;
 pub mod columns;
 pub mod examples;
+pub mod exchange;
 pub mod fit;
 pub mod frames;
 pub mod generate;
@@ -19,3 +21,4 @@ pub mod published;
 pub mod refusal;
 pub mod rng;
 pub mod table;
+pub mod why;

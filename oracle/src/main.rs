@@ -1,19 +1,21 @@
 //! The oracle's commands.
 
+use oracle::exchange::{Exchange, FITBENCH, WHY};
 use oracle::histogram::Histogram;
-use oracle::{examples, frames, generate, pairs, published, table};
+use oracle::{examples, generate, pairs, published, table};
 use std::env;
 use std::ffi::OsString;
 use std::io::{self, Read, Write};
 use std::path::Path;
 use std::process::ExitCode;
 
-const USAGE: &str = "oracle table                          document 01's numbers against the published Rust
+const USAGE: &str = "oracle table                          the documents' numbers against the published Rust
 oracle fitbench                       answer the frames on standard input
 oracle pairs DIR [PROGRAM..]          hold NAME.in and NAME.out against the reference, or against a program
 oracle gen SEED COUNT [DIR]           make inputs, count the answers, write pairs to a folder
-oracle examples DIR                   write the examples of the bench program with their answers
-oracle fuzz-frames SEED COUNT PROGRAM..   hold a program against the reference on made inputs, a process each";
+oracle fuzz-frames SEED COUNT PROGRAM..   hold a program against the reference on made inputs, a process each
+oracle why, why-pairs, why-gen, why-fuzz-frames   the same for the program why
+oracle examples DIR                   write the examples of the programs with their answers";
 
 fn main() -> ExitCode {
     published::check_build("oracle");
@@ -21,25 +23,40 @@ fn main() -> ExitCode {
     let words: Vec<&str> = args.iter().map(|a| a.to_str().unwrap_or("")).collect();
     let done = match words.as_slice() {
         ["table"] => Ok(run_table()),
-        ["fitbench"] => run_fitbench(),
-        ["pairs", folder, ..] => run_pairs(Path::new(folder), &args[2..]),
-        ["gen", seed, count, folder @ ..] if folder.len() < 2 => {
-            match (seed.parse(), count.parse()) {
-                (Ok(seed), Ok(count)) => run_gen(seed, count, folder.first().map(Path::new)),
-                _ => Ok(usage()),
-            }
-        }
+        ["fitbench"] => answer(&FITBENCH),
+        ["why"] => answer(&WHY),
         ["examples", folder] => examples::write_all(Path::new(folder)).map(|()| ExitCode::SUCCESS),
-        ["fuzz-frames", seed, count, _, ..] => match (seed.parse(), count.parse()) {
-            (Ok(seed), Ok(count)) => run_fuzz(seed, count, &args[3..]),
-            _ => Ok(usage()),
+        [command, rest @ ..] => match command.strip_prefix("why-") {
+            Some(command) => run_on(&WHY, command, rest, &args),
+            None => run_on(&FITBENCH, command, rest, &args),
         },
-        _ => Ok(usage()),
+        [] => Ok(usage()),
     };
     done.unwrap_or_else(|e| {
         eprintln!("oracle: {e}");
         ExitCode::from(2)
     })
+}
+
+/// A command that is there for each program.
+fn run_on(
+    exchange: &Exchange,
+    command: &str,
+    words: &[&str],
+    args: &[OsString],
+) -> io::Result<ExitCode> {
+    let number = |i: usize| words.get(i).and_then(|word| word.parse().ok());
+    match (command, words, number(0), number(1)) {
+        ("pairs", [folder, ..], ..) => run_pairs(exchange, Path::new(folder), &args[2..]),
+        ("gen", [_, _], Some(seed), Some(count)) => run_gen(exchange, seed, count, None),
+        ("gen", [_, _, folder], Some(seed), Some(count)) => {
+            run_gen(exchange, seed, count, Some(Path::new(folder)))
+        }
+        ("fuzz-frames", [_, _, _, ..], Some(seed), Some(count)) => {
+            run_fuzz(exchange, seed, count, &args[3..])
+        }
+        _ => Ok(usage()),
+    }
 }
 
 fn usage() -> ExitCode {
@@ -70,15 +87,15 @@ fn run_table() -> ExitCode {
     verdict(fail == 0)
 }
 
-fn run_fitbench() -> io::Result<ExitCode> {
+fn answer(exchange: &Exchange) -> io::Result<ExitCode> {
     let mut input = Vec::new();
     io::stdin().read_to_end(&mut input)?;
-    io::stdout().write_all(&frames::respond(&input))?;
+    io::stdout().write_all(&(exchange.answered)(&input).0)?;
     Ok(ExitCode::SUCCESS)
 }
 
-fn run_pairs(folder: &Path, program: &[OsString]) -> io::Result<ExitCode> {
-    let checked = pairs::check(folder, program)?;
+fn run_pairs(exchange: &Exchange, folder: &Path, program: &[OsString]) -> io::Result<ExitCode> {
+    let checked = pairs::check(exchange, folder, program)?;
     for name in &checked.differ {
         println!("differs: {name}");
     }
@@ -86,18 +103,28 @@ fn run_pairs(folder: &Path, program: &[OsString]) -> io::Result<ExitCode> {
     Ok(verdict(checked.pairs > 0 && checked.differ.is_empty()))
 }
 
-fn run_gen(seed: u64, count: u64, folder: Option<&Path>) -> io::Result<ExitCode> {
-    print!("{}", generate::run(seed, count, folder)?);
+fn run_gen(
+    exchange: &Exchange,
+    seed: u64,
+    count: u64,
+    folder: Option<&Path>,
+) -> io::Result<ExitCode> {
+    print!("{}", generate::run(exchange, seed, count, folder)?);
     Ok(ExitCode::SUCCESS)
 }
 
-fn run_fuzz(seed: u64, count: u64, program: &[OsString]) -> io::Result<ExitCode> {
+fn run_fuzz(
+    exchange: &Exchange,
+    seed: u64,
+    count: u64,
+    program: &[OsString],
+) -> io::Result<ExitCode> {
     let mut histogram = Histogram::default();
     let mut differ = 0;
     for index in 0..count {
-        let made = generate::input(seed, index);
-        let (expected, said) = frames::answered(&made.input);
-        histogram.count(&generate::label(&made.input, &said));
+        let made = (exchange.input)(seed, index);
+        let (expected, labels) = (exchange.answered)(&made.input);
+        labels.iter().for_each(|label| histogram.count(label));
         if pairs::run(program, &made.input)? != expected {
             println!("differs: input {index} of seed {seed}, {}", made.kind);
             differ += 1;

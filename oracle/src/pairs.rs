@@ -1,6 +1,6 @@
 //! A folder of pairs NAME.in and NAME.out, held against the reference or against a program.
 
-use crate::frames::respond;
+use crate::exchange::Exchange;
 use std::ffi::OsString;
 use std::fs;
 use std::io::{self, Write};
@@ -14,7 +14,7 @@ pub struct Checked {
 }
 
 /// Answers every input of a folder, by the program where one is given, and compares byte for byte.
-pub fn check(folder: &Path, program: &[OsString]) -> io::Result<Checked> {
+pub fn check(exchange: &Exchange, folder: &Path, program: &[OsString]) -> io::Result<Checked> {
     let mut checked = Checked {
         pairs: 0,
         differ: Vec::new(),
@@ -23,7 +23,7 @@ pub fn check(folder: &Path, program: &[OsString]) -> io::Result<Checked> {
         let input = fs::read(&path)?;
         let expected = fs::read(path.with_extension("out"))?;
         let answer = if program.is_empty() {
-            respond(&input)
+            (exchange.answered)(&input).0
         } else {
             run(program, &input)?
         };

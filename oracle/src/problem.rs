@@ -19,6 +19,12 @@ impl Solver {
         }
     }
 
+    /// The solver of a code.
+    pub fn of_code(code: u64) -> Option<Solver> {
+        let mut all = Solver::ALL.into_iter();
+        all.find(|solver| u64::from(solver.code()) == code)
+    }
+
     pub fn name(self) -> &'static str {
         match self {
             Solver::Normal => "normal",

@@ -1,4 +1,4 @@
-//! The numbered refusals of document 01, and the limits that they speak of.
+//! The numbered refusals of the documents, and the limits that they speak of.
 
 /// A refusal, by its number.
 #[derive(Clone, Copy, Debug, PartialEq, Eq)]
@@ -15,6 +15,8 @@ pub enum Refusal {
     SmallPivot = 9,
     FewerRowsThanColumns = 10,
     MalformedFrame = 11,
+    Threshold = 12,
+    Term = 13,
 }
 
 impl Refusal {

@@ -1,6 +1,7 @@
 //! The numbers of document 01, held against the published Rust: a line each.
 
 use crate::bits::{first_difference, same};
+use crate::cause::Cause;
 use crate::fit::{NO_TERM, Report, Stop, fit};
 use crate::frames::respond;
 use crate::linalg::{invert_spd, qr, solve_lu, solve_spd_cholesky};
@@ -19,6 +20,7 @@ pub struct Line {
 pub fn lines() -> Vec<Line> {
     let mut lines = roots();
     lines.extend(fits());
+    lines.extend(causes());
     lines.extend(solvers());
     lines.extend(inverses());
     lines.push(exchange());
@@ -185,6 +187,29 @@ fn fits() -> Vec<Line> {
         case("G10", apart(0.5, 1.0), &[0.5, 1.0], Settled, 1, 3),
         case("G11", apart(1.0, 0.25), &[0.0, 1.0], Settled, 1, 2),
         case("G12", g12(), &[f64::NAN], OutOfRounds, 0, 0),
+    ]
+}
+
+/// Why the terms of some of these fits were kept or not.
+fn causes() -> Vec<Line> {
+    use Cause::*;
+    let case = |name, p: Problem, wanted: &[Cause]| {
+        let got = fit(&p).causes;
+        line(name, format!("{got:?}"), got == wanted)
+    };
+    vec![
+        case("F1", f1(0.5, 10), &[Kept, Dropped(1, 0.25)]),
+        case("F2", f1(0.5, 0), &[Kept, Zeroed(0.25)]),
+        case("F3", f1(0.5, 1), &[Kept, Dropped(1, 0.25)]),
+        case("F4", f1(4.0, 10), &[Dropped(1, 3.0), Dropped(1, 0.25)]),
+        case("F5", one(0.0, 1.0, 0.0, 0.5, 1), &[FirstRefused]),
+        case("F8", one(1.0, f64::NAN, 0.0, 0.5, 0), &[LeftNan]),
+        case(
+            "G4",
+            falling(&[-0.25, 0.25, 3.0]),
+            &[Zeroed(-0.25), Dropped(1, 0.25), Kept],
+        ),
+        case("G5", g5(), &[Dropped(1, 0.0), Cleared(1)]),
     ]
 }
 

@@ -23,8 +23,10 @@ pub mod oxieml;
 pub mod raw;
 mod refusal;
 mod report;
+mod why;
 
 pub use calls::*;
-pub use raw::ANSWER;
+pub use raw::{ANSWER, WHY_ANSWER};
 pub use refusal::Refusal;
 pub use report::{Report, Setup, Stop};
+pub use why::{Cause, Solver, respond_why, why};

@@ -1,9 +1,12 @@
 //! The exports of the static library, as include/dapmotar.h declares them. A slice is a pointer and a length; a
 //! null pointer with length 0 is an empty slice. What is written must not overlap anything else that is read or
-//! written, and `report`, `column` and `answer` are never null.
+//! written, and `report`, `column`, `cause`, `value` and `answer` are never null.
 
 /// The room for an answer of [`dapmotar_respond`], in bytes.
 pub const ANSWER: usize = 297;
+
+/// The room for an answer of [`dapmotar_respond_why`], in bytes.
+pub const WHY_ANSWER: usize = 368;
 
 /// One signature of several calls: as the type of each, and as their declarations.
 macro_rules! alike {
@@ -133,6 +136,32 @@ unsafe extern "C" {
 
     pub safe fn dapmotar_strlsq_marquardt_workspace(n_rows: usize, n_cols: usize) -> usize;
 
+    pub fn dapmotar_why(
+        code: u64,
+        theta: *const f64,
+        theta_len: usize,
+        n_rows: usize,
+        n_cols: usize,
+        target: *const f64,
+        target_len: usize,
+        threshold: f64,
+        lambda: f64,
+        max_iter: usize,
+        term: usize,
+        coeffs: *mut f64,
+        coeffs_len: usize,
+        workspace: *mut f64,
+        workspace_len: usize,
+        cause: *mut [u64; 2],
+        value: *mut [f64; 1],
+    ) -> u64;
+
     pub fn dapmotar_respond(input: *const u8, input_len: usize, answer: *mut [u8; ANSWER])
     -> usize;
+
+    pub fn dapmotar_respond_why(
+        input: *const u8,
+        input_len: usize,
+        answer: *mut [u8; WHY_ANSWER],
+    ) -> usize;
 }

@@ -2,7 +2,7 @@
 
 use std::fmt;
 
-/// Why a call was refused: the first of these that applies, in the order 1 to 6, 10, 7, 8, 9.
+/// Why a call was refused: the first of these that applies, in the order 1, 2, 3, 12, 13, 4, 5, 6, 10, 7, 8, 9.
 #[derive(Clone, Copy, Debug, PartialEq, Eq, Hash)]
 pub enum Refusal {
     /// More columns than 64.
@@ -25,6 +25,10 @@ pub enum Refusal {
     SmallPivot(usize),
     /// Fewer rows than columns.
     FewerRowsThanColumns,
+    /// [`why`](crate::why) only: the threshold is not above zero.
+    Threshold,
+    /// [`why`](crate::why) only: the term is not one of the columns.
+    Term,
 }
 
 impl Refusal {
@@ -41,6 +45,8 @@ impl Refusal {
             Refusal::Cholesky(_) => 8,
             Refusal::SmallPivot(_) => 9,
             Refusal::FewerRowsThanColumns => 10,
+            Refusal::Threshold => 12,
+            Refusal::Term => 13,
         }
     }
 
@@ -66,6 +72,8 @@ impl Refusal {
             8 => Refusal::Cholesky(column),
             9 => Refusal::SmallPivot(column),
             10 => Refusal::FewerRowsThanColumns,
+            12 => Refusal::Threshold,
+            13 => Refusal::Term,
             other => unreachable!("the library gives no answer {other}"),
         })
     }
@@ -84,6 +92,8 @@ impl fmt::Display for Refusal {
             Refusal::Cholesky(_) => "the matrix is not positive definite",
             Refusal::SmallPivot(_) => "the matrix is singular",
             Refusal::FewerRowsThanColumns => "fewer rows than columns",
+            Refusal::Threshold => "the threshold is not above zero",
+            Refusal::Term => "the term is not one of the columns",
         };
         write!(f, "refusal {}: {text}", self.number())?;
         match self {

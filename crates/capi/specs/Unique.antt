@@ -19,9 +19,19 @@ use Rattle.rule.specs.Codes.{fitted-number}
 use Rattle.rule.specs.Unique.{fit-unique}
 use Rattle.rule.specs.declared.Task.{Task}
 use Rattle.rule.specs.declared.Solver.{Solver}
+use Rattle.exchange.specs.Exchange.{Exchanged}
 use Rattle.frames.specs.Exchange.{Exchange}
 use Rattle.frames.specs.Unique.{respond-unique}
+use Rattle.causes.specs.Exchange.{causes-of}
+use Rattle.causes.specs.Unique.{respond-why-unique}
+use Rattle.rule.specs.declared.Setup.{Setup}
+use Rattle.why.specs.Codes.{caused-number}
+use Rattle.why.specs.Unique.{why-unique}
+use Rattle.why.specs.declared.Caused.{Caused}
 use Rattle.capi.specs.Numbered.{Numbered, Reported, WithColumn, workspace}
+use Rattle.capi.specs.Coded.{WhyCoded, Explained}
+use Rattle.capi.specs.declared.explain.Coded.{Coded}
+use Rattle.capi.specs.declared.explain.Coded.the-variants.{By, Unknown}
 
 pub export-sqrt-unique : (x r s : Float) → SqrtCall x r → SqrtCall x s → r ≡ s
 export-sqrt-unique = sqrt-unique
@@ -101,8 +111,27 @@ module _ (task : Task) (theta target cs w cs' w' cs'' w'' : List Float) (p p' p'
       let answers = same .0 in
       (numbered h k answers, same .1, same .2, cc)
 
+-- by any code: an unknown one leaves no choice either
+coded-unique : (k : Coded) (rows n : ℕ) (setup : Setup) (j : ℕ) (theta target cs w cs' w' cs'' w'' : List Float) (r s : Caused)
+    → WhyCoded k rows n setup j theta target cs cs' w w' r → WhyCoded k rows n setup j theta target cs cs'' w w'' s → (r ≡ s) × (cs' ≡ cs'') × (w' ≡ w'')
+coded-unique (By solver) rows n setup j theta target cs w cs' w' cs'' w'' r s p q = why-unique _ j theta target cs w cs' w' cs'' w'' r s p q
+coded-unique Unknown rows n setup j theta target cs w cs' w' cs'' w'' r s p q = (cc, cc, cc)
+
+module _ (k : Coded) (rows n : ℕ) (setup : Setup) (j : ℕ) (theta target cs w cs' w' cs'' w'' : List Float) (p p' p'' : List ℕ) (v v' v'' : List Float) where
+  pub export-why-unique : (r s : ℕ)
+      → Numbered caused-number (Explained (WhyCoded k rows n setup j theta target cs cs' w w') p p' v v') r
+      → Numbered caused-number (Explained (WhyCoded k rows n setup j theta target cs cs'' w w'') p p'' v v'') s
+      → (r ≡ s) × (cs' ≡ cs'') × (w' ≡ w'') × (p' ≡ p'') × (v' ≡ v'')
+  export-why-unique r s h i =
+      let same = coded-unique k rows n setup j theta target cs w cs' w' cs'' w'' _ _ (h .call .why) (i .call .why) in
+      let answers = same .0 in
+      (numbered h i answers, same .1, same .2, cc, cc)
+
 pub export-workspace-unique : (solver : Solver) (rows n r s : ℕ) → r ≡ workspace solver rows n → s ≡ workspace solver rows n → r ≡ s
 export-workspace-unique solver rows n r s p q = cc
 
 pub export-respond-unique : (input was out out' : List ℕ) (r s : ℕ) → Exchange input was out r → Exchange input was out' s → (r ≡ s) × (out ≡ out')
 export-respond-unique = respond-unique
+
+pub export-respond-why-unique : (input was out out' : List ℕ) (r s : ℕ) → Exchanged causes-of input was out r → Exchanged causes-of input was out' s → (r ≡ s) × (out ≡ out')
+export-respond-why-unique = respond-why-unique

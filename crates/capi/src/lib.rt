@@ -1,4 +1,5 @@
 // What a C or Rust program links: thin exports, each with the contract of the call behind it. An answer is 0 or the refusal's number.
+mod explain;
 mod fits;
 mod solvers;
 
@@ -7,6 +8,8 @@ ghost use Rattle.builders.specs.Calls.{JtjCall, JtrCall, marquardt, ridge};
 ghost use Rattle.capi.specs.Numbered.{Numbered};
 ghost use Rattle.float64.specs.Root.{absOf};
 ghost use Rattle.float64.specs.Rule.{SqrtCall};
+ghost use Rattle.causes.specs.Exchange.{causes-of};
+ghost use Rattle.exchange.specs.Exchange.{Exchanged};
 ghost use Rattle.frames.specs.Exchange.{Exchange};
 ghost use Rattle.refusal.specs.Answers.{answer-number};
 use refusal::answer_number;
@@ -75,4 +78,12 @@ pub extern "C" fn dapmotar_respond(input: &[u8], answer: &mut [u8; frames::ANSWE
     ensures { λ r. ⌜ Exchange (now (input .entry)) (now (answer .entry)) (now (answer .exit)) r ⌝ }
 {
     frames::respond(input, answer)
+}
+
+// The exchange of the program `why`, in the same way.
+#[no_mangle]
+pub extern "C" fn dapmotar_respond_why(input: &[u8], answer: &mut [u8; causes::ANSWER]) -> usize
+    ensures { λ r. ⌜ Exchanged causes-of (now (input .entry)) (now (answer .entry)) (now (answer .exit)) r ⌝ }
+{
+    causes::respond_why(input, answer)
 }

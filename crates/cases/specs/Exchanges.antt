@@ -1,7 +1,8 @@
 -- Whole exchanges of the bench program, by computing: document 01's F1, a fit with no rows, one that names its port, and one by the third solver. Assumes nothing.
 use mathlib.Core.Path.{_≡_, refl}
 use Rattle.frames.specs.Exchange.{answer-of}
-use Rattle.frames.specs.Examples.{text, framed}
+use Rattle.exchange.specs.Text.{text}
+use Rattle.frames.specs.Examples.{framed}
 use Rattle.table.specs.Fits.{fits}
 
 pub F1-exchange : answer-of (text "01000202000a3fe00000000000000000000000000000\n40080000000000003ff00000000000000000000000000000\n3fd000000000000000000000000000003ff0000000000000\n")

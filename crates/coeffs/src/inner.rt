@@ -15,7 +15,7 @@ use support::Support;
 use support::Term;
 
 // Whether a look keeps a coefficient; a NaN on either side it does not.
-fn kept(c: f64, setup: Setup) -> bool
+pub fn kept(c: f64, setup: Setup) -> bool
     ensures { λ r. ⌜ r ≡ keeps setup 0 c ⌝ }
 {
     abs(c) >= setup.threshold
@@ -38,6 +38,28 @@ pub fn support_of(coeffs: &[f64], setup: Setup) -> Support
         s = look_at(s, Term(j), coeffs[j], setup);
     }
     s
+}
+
+// Whether a look finds a term.
+pub fn finds(coeffs: &[f64], term_idx: Term, setup: Setup) -> bool
+    ensures { λ r. ⌜ r ≡ has (word (λ j. keeps setup j (at (now (coeffs .entry)) j)) (length (now (coeffs .entry)))) («term_idx» .0) ⌝ }
+{
+    let i = term_idx.0;
+    if i < coeffs.len() {
+        return kept(coeffs[i], setup);
+    }
+    false
+}
+
+// The coefficient of a term; where there is no such term, a NaN.
+pub fn coefficient(coeffs: &[f64], term_idx: Term) -> f64
+    ensures { λ r. ⌜ r ≡ at (now (coeffs .entry)) («term_idx» .0) ⌝ }
+{
+    let i = term_idx.0;
+    if i < coeffs.len() {
+        return coeffs[i];
+    }
+    0.0 / 0.0
 }
 
 // A coefficient after the last pass.

@@ -16,7 +16,9 @@ use Rattle.refusal.specs.Answers.{solved, refused, Within}
 use Rattle.rule.specs.declared.Task.{Task}
 use Rattle.rule.specs.declared.Stop.{Stop}
 use Rattle.rule.specs.declared.Stop.the-variants.{NoData, FirstRefused}
+use Rattle.rule.specs.declared.Drop.the-variants.{Never}
 use Rattle.rule.specs.Rule.{Problem, going, done, zeros, scatter, first, start, rounds}
+use Rattle.rule.specs.Dropped.{dropped, dropped-stays}
 use Rattle.rule.specs.Fits.{problem, matrix-of, problem-of}
 use Rattle.rule.specs.Refuses.{columned}
 use Rattle.rule.specs.Stable.{stays}
@@ -33,23 +35,25 @@ pub none-left : (n : ℕ) (cs : List Float) → n ≡ 0 → length cs ≡ n → 
 none-left n [] z e = rw z
 none-left n (x ∷ cs) z e = absurd (omega arith)
 
-module _ (task : Task) (theta target : List Float) where
+module _ (task : Task) (theta target : List Float) (j : ℕ) where
   abbrev P : Problem
   P = problem-of task theta target
 
   abbrev limit : ℕ
   limit = task .setup .«max_iter»
 
-  -- a start that is done is the end
-  at-once : {t : Stop} {x : List Float} → start P ≡ done t (zeros (task .cols)) [] → x ≡ zeros (task .cols) → CameTo P limit t 0 x
-  unfolding rounds
-  at-once {t} {x} e q = came-to P limit [] (stays P 0 limit (e ∙ ap (λ (c : List Float). done t c []) (sym q)) zero-le) refl
+  -- a start that is done is the end, before any look
+  at-once : {t : Stop} {x : List Float} → start P ≡ done t (zeros (task .cols)) [] → x ≡ zeros (task .cols) → CameTo P limit j t 0 Never x
+  unfolding rounds dropped
+  at-once {t} {x} e q =
+      let over = e ∙ ap (λ (c : List Float). done t c []) (sym q) in
+      came-to P limit j [] (stays P 0 limit over zero-le) refl (sym (dropped-stays P j 0 limit over zero-le))
 
-  pub no-rows : {x : List Float} → task .rows ≡ 0 → x ≡ zeros (task .cols) → CameTo P limit NoData 0 x
+  pub no-rows : {x : List Float} → task .rows ≡ 0 → x ≡ zeros (task .cols) → CameTo P limit j NoData 0 Never x
   unfolding start problem
   no-rows h q = at-once (rw (eq-eqb (task .rows) 0 h)) q
 
-  pub no-cols : {x : List Float} → task .rows ≢ 0 → task .cols ≡ 0 → x ≡ zeros (task .cols) → CameTo P limit NoData 0 x
+  pub no-cols : {x : List Float} → task .rows ≢ 0 → task .cols ≡ 0 → x ≡ zeros (task .cols) → CameTo P limit j NoData 0 Never x
   unfolding start problem
   no-cols r h q = at-once (rw (ne-eqb (task .rows) 0 r, eq-eqb (task .cols) 0 h)) q
 
@@ -65,7 +69,7 @@ module _ (task : Task) (theta target : List Float) where
     whole = rw all (solves-full (task .solver) (task .setup .lambda) (at target) (task .rows) (task .cols) (matrix-of task theta) small)
 
     -- refused: among all columns a column is its own term
-    pub first-refused : (t : Term) (x : List Float) → a ≡ Refused t → length y ≡ task .cols → x ≡ cleared (task .cols) y → CameTo P limit (FirstRefused t) 0 x
+    pub first-refused : (t : Term) (x : List Float) → a ≡ Refused t → length y ≡ task .cols → x ≡ cleared (task .cols) y → CameTo P limit j (FirstRefused t) 0 Never x
     unfolding first problem
     first-refused t x e h i =
         let no = refused-placed a (task .cols) w t _ y e solve in

@@ -1,109 +1,14 @@
--- Reading no more than the program's room changes no answer: an input that is longer than any valid one is refused by its header, or is malformed. Assumes nothing.
-use mathlib.Core.Path.{_≡_, refl, ap, ap₂, _∙_}
-use mathlib.Core.Logic.{⊎-elim}
-use mathlib.Core.Bool.{Bool, false, _&&_}
+-- Reading no more than the program's room changes no answer. Assumes nothing.
+use mathlib.Core.Path.{_≡_}
 use mathlib.Core.List.{List}
-use Prim.Native.Nat.{ℕ, zero, suc, _+_, _*_, _≤_, _<_}
-use native.Mathlib.Nat.{mul-le-mul}
-use native.Mathlib.Omega.{arith}
-use borrow.Author.Tests.{ne-eqb, le-leb}
-use lib.Dec.{ltb}
-use lib.ListN.{length, getD, take}
-use lib.Seq.{take-all, getD-take, length-take-le}
-use Rattle.steps.specs.Cond.{lt-or-ge}
-use Rattle.refusal.specs.Answers.{and-then}
-use Rattle.refusal.specs.declared.Answer.{Answer}
-use Rattle.refusal.specs.declared.Answer.the-variants.{Done, Refused}
-use Rattle.refusal.specs.declared.Refusal.{Refusal}
-use Rattle.refusal.specs.declared.Refusal.the-variants.{Malformed}
-use Rattle.hex.specs.All.{all}
-use Rattle.hex.specs.Hex.{value, all-hex, number-at}
-use Rattle.rule.specs.Sizes.{limits, Limited, limits-hold}
-use Rattle.rule.specs.declared.Task.{Task}
-use Rattle.reader.specs.Header.{header-digits, header-frame, header-formed, header, head-of}
-use Rattle.reader.specs.Frames.{frame-at, frames-formed}
-use Rattle.reader.specs.Rows.{row-digits}
-use Rattle.reader.specs.declared.inner.header.Head.{Head}
-use Rattle.reader.specs.declared.inner.header.Head.the-variants.{Good, Wrong}
-use Rattle.frames.specs.Limits.{most-cols, most-rows, input-room}
-use Rattle.frames.specs.Exchange.{rows-formed, checked, answer-lines, answer-to, answer-of}
-
--- where the first ladder is passed, the second refuses as w
-refused-after : (a next : Answer) (w : Refusal) → (a ≡ Done → next ≡ Refused w) → and-then a next ≡ and-then a (Refused w)
-refused-after Done next w h = h refl
-refused-after (Refused v) next w h = refl
-
--- two tests that agree below n
-all-same : (f g : ℕ → Bool) (n : ℕ) → ((i : ℕ) → i < n → f i ≡ g i) → all f n ≡ all g n
-unfolding all
-all-same f g zero h = refl
-all-same f g (suc n) h = ap₂ _&&_ (all-same f g n (λ i l. h i (omega arith))) (h n (omega arith))
-
--- two inputs with the same bytes where a header stands
-module _ (s t : List ℕ) (same : (i : ℕ) → i < header-frame → getD s i 0 ≡ getD t i 0) where
-  number-same : (a n : ℕ) → a + n ≤ header-frame → number-at s a n ≡ number-at t a n
-  unfolding number-at
-  number-same a zero h = refl
-  number-same a (suc n) h = ap₂ (λ (x y : ℕ). x * 16 + value y) (number-same a n (omega arith)) (same (a + n) (omega arith))
-
-  hex-same : all-hex s 0 header-digits ≡ all-hex t 0 header-digits
-  unfolding all-hex
-  hex-same = all-same _ _ header-digits (λ i l. ap (λ (y : ℕ). ltb (value y) 16) (same (0 + i) (omega arith)))
-
-  head-same : header-frame ≤ length s → header-frame ≤ length t → head-of s ≡ head-of t
-  unfolding head-of header-formed header
-  head-same h k =
-      rw (
-        le-leb _ _ h,
-        le-leb _ _ k,
-        hex-same,
-        same header-digits (omega arith),
-        number-same 0 2 (omega arith),
-        number-same 2 4 (omega arith),
-        number-same 6 2 (omega arith),
-        number-same 8 4 (omega arith),
-        number-same 12 16 (omega arith),
-        number-same 28 16 (omega arith),
-      )
-
--- within the limits the rows end before the room does
-rows-end : {task : Task} → Limited most-cols most-rows task → frame-at (row-digits (task .cols)) (task .rows) < input-room
-unfolding frame-at
-rows-end {task} l =
-    let wide : row-digits (task .cols) + 1 ≤ row-digits most-cols + 1 = omega (arith, l .few-cols) in
-    omega (arith, mul-le-mul (l .few-rows) wide)
-
-module _ (s : List ℕ) (l : input-room ≤ length s) where
-  -- so a longer input is malformed, if its header does not refuse it
-  long-formed : (task : Task) → Limited most-cols most-rows task → rows-formed s task ≡ false
-  unfolding frames-formed
-  long-formed task k = rw (ne-eqb (length s) (frame-at (row-digits (task .cols)) (task .rows)) (λ e. omega (arith, rows-end k))) refl
-
-  -- so what refuses it is by its task alone
-  long-checked : (task : Task) → checked s task ≡ and-then (limits most-cols most-rows task) (Refused Malformed)
-  unfolding checked
-  long-checked task = refused-after (limits most-cols most-rows task) _ Malformed (λ e. rw (long-formed task (limits-hold e)) refl)
-
--- a refusal's line does not depend on the input
-same-lines : (s t : List ℕ) (task : Task) (a : Answer) → answer-lines s task (and-then a (Refused Malformed)) ≡ answer-lines t task (and-then a (Refused Malformed))
-unfolding answer-lines
-same-lines s t task Done = refl
-same-lines s t task (Refused w) = refl
-
--- so two longer inputs of one header are answered alike
-long-answer : (s t : List ℕ) (d : Head) → input-room ≤ length s → input-room ≤ length t → answer-to s d ≡ answer-to t d
-unfolding answer-to
-long-answer s t (Good task) l k = rw (long-checked s l task, long-checked t k task) (same-lines s t task (limits most-cols most-rows task))
-long-answer s t Wrong l k = refl
-
-long-cut : (s : List ℕ) → input-room ≤ length s → answer-of (take input-room s) ≡ answer-of s
-unfolding answer-of
-long-cut s l =
-    let t = take input-room s in
-    let len : length t ≡ input-room = length-take-le input-room s l in
-    let head = head-same t s (λ i k. getD-take input-room s i 0 (omega arith)) (omega (arith, len)) (omega arith) in
-    ap (answer-to t) head ∙ long-answer t s (head-of s) (omega (arith, len)) l
+use Prim.Native.Nat.{ℕ}
+use lib.ListN.{take}
+use Rattle.rule.specs.Sizes.{limits-hold}
+use Rattle.exchange.specs.Limits.{input-room}
+use Rattle.exchange.specs.Cut.{cut-alike-by}
+use Rattle.frames.specs.Exchange.{before-rows, lines-asked, answer-of}
 
 -- the bytes beyond the room change no answer
 pub cut-alike : (s : List ℕ) → answer-of (take input-room s) ≡ answer-of s
-cut-alike s = ⊎-elim (λ l. ap answer-of (take-all input-room s (omega arith))) (long-cut s) (lt-or-ge (length s) input-room)
+unfolding answer-of
+cut-alike = cut-alike-by before-rows lines-asked (λ task. limits-hold)

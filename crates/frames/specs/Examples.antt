@@ -1,30 +1,13 @@
 -- Refused inputs, by computing. Assumes nothing.
 use mathlib.Core.Path.{_≡_, refl}
-use mathlib.Core.List.{List, [], _∷_}
-use Prim.Native.Nat.{ℕ}
-use Prim.Native.Char.{code}
-use Prim.Native.String as S
-use Prim.Native.String.{String}
-use lib.Ieee.{toBits, isNan}
-use Rattle.rule.specs.Sizes.{limits}
-use Rattle.hex.specs.All.{all}
-use Rattle.hex.specs.Hex as H
-use Rattle.reader.specs.Header as D
-use Rattle.reader.specs.Frames as F
 use Rattle.writer.specs.Answer as A
+use Rattle.exchange.specs.Text.{text, exchanging}
 use Rattle.frames.specs.Exchange as X
 use Rattle.frames.specs.Exchange.{answer-of}
 
--- the bytes of a text
-unfoldable pub text : String → List ℕ
-text S.[] = []
-text (S._∷_ c s) = code c ∷ text s
-
 -- all that the frames compute with
 unfoldable pub framed : Unit {0}
-unfolding text toBits isNan all H.value H.glyph H.all-hex H.number-at H.digits H.bits D.header-formed D.header D.head-of
-    F.frame-at F.frame-formed F.frames-formed A.refusal-line A.report-line A.coefficient-lines
-    limits X.checked X.fit-asked X.fit-lines X.answer-lines X.answer-to X.answer-of
+unfolding exchanging A.report-line A.coefficient-lines X.checked X.fit-asked X.fit-lines X.answer-of
 framed = tt
 
 -- an empty input, a header with no newline, a digit too many, a carriage return, an uppercase digit, a solver that is not there

@@ -10,7 +10,8 @@ use Rattle.rule.specs.Promises.{refits-at-most, kept-below, refused-term}
 use Rattle.rule.specs.declared.Task.{Task}
 use Rattle.rule.specs.declared.Stop.{Stop}
 use Rattle.rule.specs.declared.Stop.the-variants.{NoData, FirstRefused, Empty, RefitRefused, Settled, OutOfRounds}
-use Rattle.frames.specs.Exchange.{Accepted, fit-asked}
+use Rattle.exchange.specs.Exchange.{Accepted}
+use Rattle.frames.specs.Exchange.{fit-asked}
 
 module _ (s : List ℕ) (task : Task) (ok : Accepted s task) where
   -- at most 1,000 refits, in four digits

@@ -1,24 +1,8 @@
--- The program's own sizes: each follows from the first two. Assumes nothing.
+-- The longest answer. Assumes nothing.
 use Prim.Native.Nat.{ℕ, _+_, _*_}
-use Rattle.reader.specs.Header.{header-frame}
-use Rattle.reader.specs.Rows.{row-digits}
 use Rattle.writer.specs.Answer.{report-bytes, coefficient-bytes}
+use Rattle.exchange.specs.Limits.{most-cols}
 
--- its own limits: 128 rows, 16 columns
-abbrev pub most-rows : ℕ
-most-rows = 128
-
-abbrev pub most-cols : ℕ
-most-cols = 16
-
--- the longest answer: a report, and a coefficient for each column
+-- a report, and a coefficient for each column
 abbrev pub answer-room : ℕ
 answer-room = report-bytes + most-cols * coefficient-bytes
-
--- one byte more than the longest valid input has
-abbrev pub input-room : ℕ
-input-room = header-frame + most-rows * (row-digits most-cols + 1) + 1
-
--- the workspace of the largest fit: by least squares
-abbrev pub most-space : ℕ
-most-space = 2 * ((most-rows + most-cols) * most-cols) + 3 * (most-rows + most-cols) + 3 * most-cols

@@ -7,23 +7,21 @@ use lib.Dec.{T, lit<}
 use lib.ListN.{length, take, drop, length-append}
 use lib.Seq.{split-at, append-snoc, length-take-le}
 use lib.Ieee.{Float, nan, binary64, fits}
-use lib.Ieee.Bits.{ofBits-fits}
 use Rattle.steps.specs.Num.{at}
-use Rattle.steps.specs.Table.{tab}
 use Rattle.hex.specs.Hex.{number-at, float, digits, bits, newline}
-use Rattle.hex.specs.ReadBack.{length-digits, read-back, float-back}
+use Rattle.hex.specs.ReadBack.{length-digits, number-in, float-back}
 use Rattle.rule.specs.Rule.{Fit}
 use Rattle.rule.specs.Calls.{report-of}
 use Rattle.rule.specs.Codes.{stop-code, stop-term}
-use Rattle.rule.specs.Rounded.{in-format, tab-column}
 use Rattle.rule.specs.Promises.{coefficients-fit}
 use Rattle.rule.specs.declared.Task.{Task}
 use Rattle.rule.specs.declared.Stop.{Stop}
 use Rattle.rule.specs.declared.Stop.the-variants.{NoData, FirstRefused, Empty, RefitRefused, Settled, OutOfRounds}
 use Rattle.writer.specs.Answer.{report-line, report-bytes, coefficient-lines, coefficient-bytes}
 use Rattle.reader.specs.Header.{head-of}
-use Rattle.reader.specs.Rows.{target}
-use Rattle.frames.specs.Exchange.{checked, fit-asked, fit-lines, answer-lines, answer-of}
+use Rattle.exchange.specs.Exchange.{target-asked, answer-lines}
+use Rattle.exchange.specs.Reading.{target-fits}
+use Rattle.frames.specs.Exchange.{checked, fit-asked, fit-lines, answer-of}
 use Rattle.frames.specs.Cases.{answer-good, was-accepted}
 use Rattle.writer.specs.Lines.{lines-append, length-lines, length-report}
 use Rattle.frames.specs.InDigits.{refits-within, kept-within, term-within}
@@ -45,10 +43,6 @@ code-lt Empty = lit< tt
 code-lt (RefitRefused t) = lit< tt
 code-lt Settled = lit< tt
 code-lt OutOfRounds = lit< tt
-
--- a number whose digits stand in a text, and where
-number-in : (s before after : List ℕ) (a n w : ℕ) → s ≡ before ++ (digits n w ++ after) → length before ≡ a → w < 16 ^ n → number-at s a n ≡ w
-number-in s before after a n w e len h = rw (e, ← len) (read-back n w before after h)
 
 -- the line of coefficient j has those of the coefficients before it in front
 line-at : (xs : List Float) (j : ℕ) → j < length xs → coefficient-lines xs ≡ coefficient-lines (take j xs) ++ (digits 16 (bits (at xs j)) ++ (newline ∷ coefficient-lines (drop (suc j) xs)))
@@ -82,12 +76,10 @@ lines-read-back f r k u g =
       coefficient = λ j h. coefficient-back (report-line (report-of f)) (f .coeffs) j h (g j) (length-report (report-of f));
     }
 
--- every coefficient of an input's fit is a binary64, since the digits of a target are read as one
+-- every coefficient of an input's fit is a binary64, since those of its target are
 coefficients-in-format : (s : List ℕ) (task : Task) (j : ℕ) → T (fits binary64 (at (fit-asked s task .coeffs) j))
 unfolding fit-asked
-coefficients-in-format s task =
-    let read = tab-column in-format (task .rows) (target s (task .cols)) (λ r. ofBits-fits binary64 _) in
-    coefficients-fit task _ (at (tab (task .rows) (target s (task .cols)))) (read .each)
+coefficients-in-format s task = coefficients-fit task _ (at (target-asked s task)) (target-fits s task)
 
 -- the answer to an accepted input says its fit: the stop, the refits, the kept word, the refused term, and each coefficient, a NaN as a NaN
 pub answer-read-back : (s : List ℕ) (task : Task) → head-of s ≡ Good task → checked s task ≡ Done → Says (answer-of s) (fit-asked s task)

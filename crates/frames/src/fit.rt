@@ -5,19 +5,19 @@ ghost use lib.ListN.{length};
 ghost use Rattle.hex.specs.Put.{Written};
 ghost use Rattle.rule.specs.Fits.{fit-of};
 ghost use Rattle.rule.specs.Sizes.{Limited, Sized};
-ghost use Rattle.frames.specs.Limits.{most-cols, most-rows, most-space, answer-room};
-ghost use Rattle.frames.specs.Exchange.{Accepted, fit-asked, fit-lines};
-use crate::COLS;
-use crate::ROWS;
-use reader::inner::rows;
+ghost use Rattle.exchange.specs.Limits.{most-cols, most-rows, most-space};
+ghost use Rattle.exchange.specs.Exchange.{Accepted};
+ghost use Rattle.frames.specs.Limits.{answer-room};
+ghost use Rattle.frames.specs.Exchange.{fit-asked, fit-lines};
+use exchange::inner::COLS;
+use exchange::inner::ROWS;
+use exchange::inner::SPACE;
+use exchange::inner::THETA;
+use exchange::inner::read_rows;
 use rule::Task;
 use strlsq::inner::fit_in;
+use support::Term;
 use writer::inner::write_fit;
-
-// The largest theta, and the largest workspace: that of the largest task by least squares.
-const THETA: usize = ROWS * COLS;
-
-const SPACE: usize = 2 * ((ROWS + COLS) * COLS) + 3 * (ROWS + COLS) + 3 * COLS;
 
 // Fits theta and target as the task asks, and writes the lines.
 fn fit_into(
@@ -32,7 +32,8 @@ fn fit_into(
         × (length (now coeffs) ≡ task .cols) × (length (now workspace) ≡ most-space) × (answer-room ≤ length (now out)) ⌝ }
     ensures { λ r. ⌜ Written 0 (fit-lines (fit-of task (now (theta .entry)) (now (target .entry)))) (now (out .entry)) (now (out .exit)) r ⌝ }
 {
-    let report = fit_in(task, theta, target, coeffs, workspace);
+    let watched = fit_in(task, theta, target, Term(0), coeffs, workspace);
+    let report = watched.report;
     write_fit(report, coeffs, out)
 }
 
@@ -60,11 +61,9 @@ pub fn fit_rows(s: &[u8], task: Task, out: &mut [u8]) -> usize
     ensures { λ r. ⌜ Written 0 (fit-lines (fit-asked (now (s .entry)) task)) (now (out .entry)) (now (out .exit)) r ⌝ }
 {
     let rows = task.rows;
-    let cols = task.cols;
-    let n = rows * cols;
+    let n = rows * task.cols;
     let mut theta = [0.0f64; THETA];
     let mut target = [0.0f64; ROWS];
-    rows::read_theta(s, rows, cols, &mut theta);
-    rows::read_target(s, rows, cols, &mut target);
+    read_rows(s, task, &mut theta, &mut target);
     fit_read(task, &theta[0..n], &target[0..rows], out)
 }

@@ -3,11 +3,11 @@ mod fit;
 
 ghost use mathlib.Core.Path.{_≡_};
 ghost use Rattle.frames.specs.Exchange.{checked, Exchange};
-use reader::inner::frames::formed;
-use reader::inner::header::FRAME;
+use exchange::inner::COLS;
+use exchange::inner::ROWS;
+use exchange::inner::then_rows;
 use reader::inner::header::Head;
 use reader::inner::header::read_header;
-use reader::inner::rows::row_digits;
 use refusal::Answer;
 use refusal::Refusal;
 use rule::Task;
@@ -16,29 +16,15 @@ use writer::inner::COEFFICIENT_BYTES;
 use writer::inner::REPORT_BYTES;
 use writer::inner::write_refusal;
 
-// The program's own limits of a task.
-pub const COLS: usize = 16;
-
-pub const ROWS: usize = 128;
-
 // The longest answer: a report, and a coefficient for each column.
 pub const ANSWER: usize = REPORT_BYTES + COLS * COEFFICIENT_BYTES;
-
-// One byte more than the longest valid input has: what a longer input has beyond it changes no answer (`cut-alike`).
-pub const INPUT: usize = FRAME + ROWS * (16 * (1 + COLS) + 1) + 1;
 
 // The first refusal that applies after a good header.
 fn check(s: &[u8], task: Task) -> Answer
     ensures { λ r. ⌜ r ≡ checked (now (s .entry)) task ⌝ }
 {
     let limited = limits(task, COLS, ROWS);
-    let Answer::Done = limited else {
-        return limited;
-    };
-    if !formed(s, task.rows, row_digits(task.cols)) {
-        return Answer::Refused(Refusal::Malformed);
-    }
-    Answer::Done
+    then_rows(limited, s, task)
 }
 
 // Writes the answer to an input at the head of `answer`, and returns its length.

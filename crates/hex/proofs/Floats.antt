@@ -4,9 +4,9 @@ use mathlib.Core.Bool.{Bool, true, false, not}
 use Prim.Native.Nat.{ℕ, _%_, _<_, _≤_}
 use borrow.Author.Tests.{lt-ltb, le-ltb}
 use lib.Dec.{T}
-use lib.Ieee.{Float, nan, inf, fin, binary64, ofBits, toBits, ofFields, odd, div, ne, isNan, nanBits}
+use lib.Ieee.{Float, nan, inf, fin, binary64, ofBits, toBits, ne, isNan, nanBits}
 use lib.Ieee.Bits.{nanBits-is, nanBits-above}
-use lib.Ieee.Compare.{differs-from-itself, nan-differs}
+use Rattle.steps.specs.Nan.{differs}
 use Rattle.hex.specs.Hex.{bits}
 
 only-nan : (x : Float) → isNan x ≡ true → x ≡ nan
@@ -23,23 +23,13 @@ pattern-nan n h = only-nan (ofBits binary64 n) (sym (nanBits-is binary64 n) ∙ 
 pub pattern-fine : (n : ℕ) → n % 0x8000_0000_0000_0000 ≤ 0x7ff0_0000_0000_0000 → T (not (nanBits binary64 n))
 pattern-fine n h = subst (λ (t : Bool). T (not t)) (sym (nanBits-above binary64 n ∙ le-ltb 0x7ff0_0000_0000_0000 (n % 0x8000_0000_0000_0000) h)) tt
 
--- 0.0 / 0.0
-pub zero-over-zero : div binary64 (ofBits binary64 0) (ofBits binary64 0) ≡ nan
-unfolding ofBits ofFields odd div
-zero-over-zero = refl
-
 pub nan-bits : (x : Float) → ne x x ≡ true → 0x7ff8_0000_0000_0000 ≡ bits x
-unfolding bits isNan
-nan-bits x h = sym (ap bits (differs-from-itself x (subst T (sym h) tt)))
+unfolding bits
+nan-bits x h = rw (← differs x, h) refl
 
 pub no-nan : (x : Float) → ne x x ≡ false → T (not (isNan x))
-unfolding isNan
-no-nan nan h = subst T (sym nan-differs ∙ h) tt
-no-nan (inf s) h = tt
-no-nan (fin s m e) h = tt
+no-nan x h = rw (← differs x, h) tt
 
 pub own-bits : (x : Float) → ne x x ≡ false → toBits binary64 x ≡ bits x
-unfolding bits isNan
-own-bits nan h = absurd (subst T (sym nan-differs ∙ h) tt)
-own-bits (inf s) h = refl
-own-bits (fin s m e) h = refl
+unfolding bits
+own-bits x h = rw (← differs x, h) refl

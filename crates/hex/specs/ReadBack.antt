@@ -64,6 +64,10 @@ number-digits (suc n) w h =
 pub read-back : (n w : ℕ) (before after : List ℕ) → w < 16 ^ n → number-at (before ++ (digits n w ++ after)) (length before) n ≡ w
 read-back n w before after h = number-within before (digits n w) after n (omega (arith, length-digits n w)) ∙ number-digits n w h
 
+-- so is that of a text in which they stand from a on
+pub number-in : (s before after : List ℕ) (a n w : ℕ) → s ≡ before ++ (digits n w ++ after) → length before ≡ a → w < 16 ^ n → number-at s a n ≡ w
+number-in s before after a n w e len h = rw (e, ← len) (read-back n w before after h)
+
 -- the bits of an f64 give it back: of one that is no NaN they are its own, and those of a NaN are a NaN's
 bits-back : (x : Float) → T (fits binary64 x) → ofBits binary64 (bits x) ≡ x
 unfolding bits isNan ofBits

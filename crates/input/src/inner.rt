@@ -3,6 +3,7 @@ ghost use mathlib.Core.Path.{_≡_};
 ghost use Prim.Native.Nat.{_+_, _≤_};
 ghost use lib.ListN.{length};
 ghost use Rattle.libc.specs.Io.{Moved};
+ghost use Rattle.exchange.specs.Limits.{input-room};
 ghost use Rattle.input.specs.Read.{Came, Behind, after-read};
 use libc::STDIN_FILENO;
 
@@ -56,4 +57,12 @@ pub fn read_whole(room: &mut [u8]) -> Input
         }
     }
     Input::Whole(n)
+}
+
+// Reads an input of a bench program, into a room of just the length at which what a longer input has beyond it changes no answer (`cut-alike-by`).
+pub fn read_input(room: &mut [u8]) -> Input
+    requires { ⌜ length (now room) ≡ input-room ⌝ }
+    ensures { λ r. ⌜ Came r (now (room .exit)) ⌝ }
+{
+    read_whole(room)
 }

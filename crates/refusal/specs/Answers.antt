@@ -5,7 +5,7 @@ use mathlib.Core.List.{List}
 use lib.Ieee.{Float}
 use Rattle.steps.specs.Loops.{Way, going, stopped}
 use Rattle.refusal.specs.declared.Refusal.{Refusal}
-use Rattle.refusal.specs.declared.Refusal.the-variants.{ManyColumns, ManyRows, ManyRounds, MatrixLength, TargetLength, OutputLength, WorkspaceShort, NotSpd, SmallPivot, FewRows, Malformed}
+use Rattle.refusal.specs.declared.Refusal.the-variants.{ManyColumns, ManyRows, ManyRounds, MatrixLength, TargetLength, OutputLength, WorkspaceShort, NotSpd, SmallPivot, FewRows, Malformed, LowThreshold, NoSuchTerm}
 use Rattle.refusal.specs.declared.Answer.{Answer}
 use Rattle.refusal.specs.declared.Answer.the-variants.{Done, Refused}
 use Rattle.refusal.specs.declared.Column.{Column}
@@ -13,7 +13,7 @@ use Rattle.refusal.specs.declared.Column.the-variants.{None, At}
 use Rattle.refusal.specs.declared.Solved.{Solved}
 use Rattle.refusal.specs.declared.Solved.the-variants as S
 
--- document 01's numbers
+-- the documents' numbers
 abbrev pub number : Refusal → ℕ
 number ManyColumns = 1
 number ManyRows = 2
@@ -26,6 +26,8 @@ number (NotSpd c) = 8
 number (SmallPivot c) = 9
 number FewRows = 10
 number Malformed = 11
+number LowThreshold = 12
+number NoSuchTerm = 13
 
 -- an answer by number: 0 for done
 abbrev pub answer-number : Answer → ℕ
@@ -45,6 +47,8 @@ column-of (NotSpd c) = At c
 column-of (SmallPivot c) = At c
 column-of FewRows = None
 column-of Malformed = None
+column-of LowThreshold = None
+column-of NoSuchTerm = None
 
 -- the column at which an answer says that a solver refused
 abbrev pub answer-column : Answer → Column

@@ -17,6 +17,8 @@ pub enum Refusal {
     SmallPivot(usize),
     FewRows,
     Malformed,
+    LowThreshold,
+    NoSuchTerm,
 }
 
 // What a public call answers that gives no value of its own.
@@ -53,6 +55,8 @@ pub fn number(w: Refusal) -> u64
         Refusal::SmallPivot(_) => 9,
         Refusal::FewRows => 10,
         Refusal::Malformed => 11,
+        Refusal::LowThreshold => 12,
+        Refusal::NoSuchTerm => 13,
     }
 }
 
@@ -72,6 +76,8 @@ pub fn column_of(w: Refusal) -> Column
         Refusal::SmallPivot(c) => Column::At(c),
         Refusal::FewRows => Column::None,
         Refusal::Malformed => Column::None,
+        Refusal::LowThreshold => Column::None,
+        Refusal::NoSuchTerm => Column::None,
     }
 }
 

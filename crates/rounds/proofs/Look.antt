@@ -1,22 +1,24 @@
 -- A round, in the words of what the code's calls ensure. Assumes nothing.
 use mathlib.Core.Path.{_≡_, refl, sym, ap, _∙_}
 use mathlib.Core.Logic.{_≢_}
-use mathlib.Core.Bool.{Bool, true, false}
+use mathlib.Core.Bool.{Bool, true, false, cond}
 use mathlib.Core.List.{List, _∷_}
-use Prim.Native.Nat.{ℕ, _^_, _<_}
+use Prim.Native.Nat.{ℕ, suc, _^_, _<_}
 use borrow.Author.Tests.{eqb-true, eqb-false, eq-eqb, ne-eqb}
 use lib.Dec.{eqb}
 use lib.ListN.{length}
 use lib.Ieee.{Float}
 use Rattle.steps.specs.Num.{at}
 use Rattle.steps.specs.Space.{cleared}
-use Rattle.support.specs.Word.{word}
+use Rattle.support.specs.Word.{has, word}
 use Rattle.support.specs.WordLaws.{word-lt}
 use Rattle.support.specs.declared.Support.{Support}
 use Rattle.support.specs.declared.Term.{Term}
 use Rattle.rule.specs.declared.Task.{Task}
 use Rattle.rule.specs.declared.Stop.the-variants.{RefitRefused}
+use Rattle.rule.specs.declared.Drop.the-variants.{Never, Before}
 use Rattle.rule.specs.Rule.{Problem, going, done, zeros, latest, support, refit, look, round}
+use Rattle.rule.specs.Dropped.{drops}
 use Rattle.rule.specs.Fits.{keeps, problem, problem-of}
 use Rattle.refit.specs.declared.inner.Spread.{Spread}
 use Rattle.refit.specs.declared.inner.Spread.the-variants as A
@@ -42,6 +44,12 @@ pub support-found : (task : Task) (theta target cs : List Float) → length cs �
     → w ≡ support (problem-of task theta target) cs
 unfolding support problem
 support-found task theta target cs long w s = s ∙ ap (word (λ j. keeps (task .setup) j (at cs j))) long
+
+-- what a look tells of the term j is what the rule says that it drops
+pub look-drops : (task : Task) (theta target cs : List Float) → length cs ≡ task .cols → (j r : ℕ) (past : List ℕ) → r ≡ length past
+    → cond (has (word (λ k. keeps (task .setup) k (at cs k)) (length cs)) j) Never (Before (suc r) (at cs j)) ≡ drops (problem-of task theta target) j (going cs past)
+unfolding drops
+look-drops task theta target cs long j r past e = rw (support-found task theta target cs long _ refl, e) refl
 
 -- a look at cs that found w
 module _ (task : Task) (theta target : List Float) (last : ℕ) (cs : List Float) (long : length cs ≡ task .cols)

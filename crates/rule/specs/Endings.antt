@@ -30,7 +30,7 @@ Zeroed Settled = ⊥
 Zeroed OutOfRounds = ⊥
 
 -- the last look gives none of them
-unzeroed : (refits last w : ℕ) → Zeroed (last-look refits last w) → ⊥
+pub unzeroed : (refits last w : ℕ) → Zeroed (last-look refits last w) → ⊥
 unfolding last-look
 unzeroed refits last w = either (λ t. Zeroed t → ⊥) (eqb refits 0) _ _ (λ e z. z) (λ e. either (λ t. Zeroed t → ⊥) (eqb w last) _ _ (λ q z. z) (λ q z. z))
 

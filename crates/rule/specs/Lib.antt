@@ -2,6 +2,7 @@
 pub mod Codes
 pub mod Rule
 pub mod Tasks
+pub mod Dropped
 pub mod Fits
 pub mod Kept
 pub mod Sizes
@@ -19,5 +20,6 @@ pub mod RightSides
 pub mod Values
 pub mod SameFit
 pub mod Made
+pub mod Threshold
 pub mod Promises
 pub mod Demand3

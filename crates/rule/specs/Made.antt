@@ -1,4 +1,4 @@
--- What holds of +0.0 and of every value that a solve gives holds of every coefficient of the fit. Once over the problem. Assumes nothing.
+-- What holds of +0.0 and of every value that a solve gives holds of every coefficient after each round, and of the fit. Once over the problem. Assumes nothing.
 use mathlib.Core.Path.{_≡_}
 use mathlib.Core.List.{List}
 use Prim.Native.Nat.{ℕ}
@@ -8,8 +8,8 @@ use Rattle.steps.specs.Cond.{either}
 use Rattle.steps.specs.Table.{tab-replicate}
 use Rattle.refusal.specs.Answers.{solved}
 use Rattle.support.specs.Word.{has, place}
-use Rattle.rule.specs.Rule.{Problem, State, going, done, zeros, support, scatter, refit, first, pruned, reported, fit}
-use Rattle.rule.specs.Course.{Course, of-fit}
+use Rattle.rule.specs.Rule.{Problem, State, going, done, zeros, support, scatter, refit, first, pruned, rounds, reported, fit, coeffs-of}
+use Rattle.rule.specs.Course.{Course, after-rounds, of-fit}
 use Rattle.rule.specs.Rounded.{Rounded, tab-column}
 
 -- Q of each number of a list
@@ -50,3 +50,11 @@ module _ (P : Problem) {Q : Float → Type 0} (made : Rounded Q) where
     pub made-coeffs : (r : ℕ) → Each Q (fit P r .coeffs)
     unfolding reported Now
     made-coeffs r = of-fit P course (λ f. Each Q (f .coeffs)) r (λ cs ws i. pruned-each cs i) (λ t cs ws i. pruned-each cs i)
+
+    pub made-rounds : (r : ℕ) → Each Q (coeffs-of (rounds P r))
+    unfolding Now
+    made-rounds r = go (rounds P r) (after-rounds P course r)
+      where
+        go : (s : State) → Now s → Each Q (coeffs-of s)
+        go (going cs ws) i = i
+        go (done t cs ws) i = i

@@ -1,22 +1,23 @@
 -- What is promised of all three fits: each theorem holds for every solver, and was proved once over the problem. Assumes nothing.
-use mathlib.Core.Path.{_≡_, refl, sym, subst}
+use mathlib.Core.Path.{_≡_, subst}
 use mathlib.Core.Logic.{_≢_}
-use mathlib.Core.Bool.{Bool, true, false, _||_, _&&_}
+use mathlib.Core.Bool.{_&&_}
 use mathlib.Core.List.{List}
-use Prim.Native.Nat.{ℕ, suc, _*_, _^_, _≤_, _<_}
-use native.Mathlib.Omega.{arith}
+use Prim.Native.Nat.{ℕ, suc, _^_, _≤_, _<_}
 use lib.Count.{ones}
-use lib.Dec.{T, eqb, ltb, ltb→lt, eqb→eq}
-use lib.Ieee.{Float, nan, inf, fin, binary64, fits, ofBits, lt, le, eq, up, down}
+use lib.Dec.{T, ltb}
+use lib.Ieee.{Float, nan, binary64, fits, lt, le}
 use Rattle.steps.specs.Num.{+zero, at, Entry}
 use Rattle.float64.specs.Root.{absOf}
 use Rattle.support.specs.Word.{has}
+use Rattle.refusal.specs.Answers.{solved}
 use Rattle.places.specs.Columns.{columns}
 use Rattle.rule.specs.declared.Setup.{Setup}
 use Rattle.rule.specs.declared.Task.{Task}
 use Rattle.rule.specs.declared.Stop.the-variants.{Settled, OutOfRounds}
-use Rattle.rule.specs.Rule.{Problem, Fit, done, zeros, rounds, refitted}
+use Rattle.rule.specs.Rule.{Problem, Fit, done, zeros, rounds, refitted, coeffs-of}
 use Rattle.rule.specs.Fits.{keeps, problem, problem-by, fit-by}
+use Rattle.rule.specs.Threshold.{zero-below, nan-below}
 use Rattle.rule.specs.LastLook.{SettlesNext, settled-next, settled-before}
 use Rattle.rule.specs.Refuses.{columned, RefusedAt, refused-at}
 use Rattle.rule.specs.Stable.{Steady, steady, Bounded, ZeroKept, refits-few}
@@ -24,31 +25,7 @@ use Rattle.rule.specs.Shrinking.{bounded}
 use Rattle.rule.specs.Endings.{Zeroed, ends-with-zeros, no-nan, kept-lt, kept-rule}
 use Rattle.rule.specs.Rounded.{Rounded, in-format}
 use Rattle.rule.specs.Values.{solved-column}
-use Rattle.rule.specs.Made.{made-coeffs}
-
--- above zero, nothing is kept at +0.0
-no-gap : (x y : ℕ) → T (ltb y x) → T (ltb x y || (eqb x y && true)) → ⊥
-no-gap x y h t = go (ltb x y) (eqb x y) refl refl t
-  where
-    go : (a b : Bool) → ltb x y ≡ a → eqb x y ≡ b → T (a || (b && true)) → ⊥
-    go true b p q t = let l = ltb→lt x y (subst (λ (u : Bool). T u) (sym p) tt) in omega (arith, ltb→lt y x h)
-    go false true p q t = let e = eqb→eq x y (subst (λ (u : Bool). T u) (sym q) tt) in omega (arith, ltb→lt y x h)
-    go false false p q t = t
-
-above-zero : (threshold : Float) → T (lt +zero threshold) → T (le threshold (absOf +zero)) → ⊥
-unfolding lt le eq absOf ofBits
-above-zero nan h t = h
-above-zero (inf true) h t = h
-above-zero (inf false) h t = t
-above-zero (fin true m e) h t = h
-above-zero (fin false m e) h t = no-gap (m * up e * 1) (0 * 1 * down e) h t
-
--- a NaN is at or above no threshold
-nan-below : (threshold : Float) → le threshold (absOf nan) ≡ false
-unfolding absOf le lt eq
-nan-below nan = refl
-nan-below (inf s) = refl
-nan-below (fin s m e) = refl
+use Rattle.rule.specs.Made.{made-coeffs, made-rounds}
 
 -- of any task, matrix and target
 module _ (task : Task) (e : Entry) (t : ℕ → Float) where
@@ -69,7 +46,7 @@ module _ (task : Task) (e : Entry) (t : ℕ → Float) where
   -- demand 3, for a threshold above zero
   pub bounds : T (lt +zero (setup .threshold)) → Bounded P
   unfolding problem ZeroKept keeps
-  bounds h = bounded P (λ j c k. absurd (above-zero (setup .threshold) h k))
+  bounds h = bounded P (λ j c k. absurd (subst T (zero-below (setup .threshold) h) k))
 
   -- a fit that is Settled, by the look of a round or by the last look, has settled after one round more, with the same report
   pub settles-next : f .stop ≡ Settled → SettlesNext P (setup .«max_iter»)
@@ -112,13 +89,22 @@ module _ (task : Task) (e : Entry) (t : ℕ → Float) where
   kept-word j = kept-rule P (setup .«max_iter») j
 
   -- what holds of the target's numbers and of every result of an operation holds of each coefficient
-  pub coefficients-made : {Q : Float → Type 0} → Rounded Q → ((i : ℕ) → Q (t i)) → (j : ℕ) → Q (at (f .coeffs) j)
-  unfolding fit-by problem
-  coefficients-made made h =
-      made-coeffs P made
-      (λ vs q. solved-column made (task .solver) (setup .lambda) t (task .rows) (task .cols) e vs h q .each)
-      (λ w vs q. solved-column made (task .solver) (setup .lambda) t (task .rows) (ones w) (columns (task .cols) w e) vs h q .each)
-      (setup .«max_iter»)
+  module _ {Q : Float → Type 0} (made : Rounded Q) (h : (i : ℕ) → Q (t i)) where
+    whole-made : (vs : List Float) → P .whole ≡ solved vs → (j : ℕ) → Q (at vs j)
+    unfolding problem
+    whole-made vs q = solved-column made (task .solver) (setup .lambda) t (task .rows) (task .cols) e vs h q .each
+
+    part-made : (w : ℕ) (vs : List Float) → P .solve w ≡ solved vs → (j : ℕ) → Q (at vs j)
+    unfolding problem
+    part-made w vs q = solved-column made (task .solver) (setup .lambda) t (task .rows) (ones w) (columns (task .cols) w e) vs h q .each
+
+    pub coefficients-made : (j : ℕ) → Q (at (f .coeffs) j)
+    unfolding fit-by
+    coefficients-made = made-coeffs P made whole-made part-made (setup .«max_iter»)
+
+    -- and of each that a look sees, and the last pass
+    pub looked-made : (r j : ℕ) → Q (at (coeffs-of (rounds P r)) j)
+    looked-made = made-rounds P made whole-made part-made
 
   -- so each is a binary64 where the target's numbers are, whatever theta, threshold and lambda hold
   pub coefficients-fit : ((i : ℕ) → T (fits binary64 (t i))) → (j : ℕ) → T (fits binary64 (at (f .coeffs) j))

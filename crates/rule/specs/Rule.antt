@@ -113,3 +113,8 @@ past (done t cs ws) = ws
 
 unfoldable pub refitted : Problem → ℕ → List ℕ
 refitted P r = past (rounds P r)
+
+-- the coefficients of a state: once the rounds are over, those before the last pass
+abbrev pub coeffs-of : State → List Float
+coeffs-of (going cs ws) = cs
+coeffs-of (done t cs ws) = cs

@@ -14,7 +14,7 @@ use Rattle.support.specs.Word.{Strict}
 use Rattle.rule.specs.declared.Stop.{Stop}
 use Rattle.rule.specs.declared.Stop.the-variants.{NoData, FirstRefused, Empty, RefitRefused, Settled, OutOfRounds}
 use Rattle.rule.specs.Rule.{Problem, State, going, done, refit, round, first, rounds, reported, last-stop, finish, fit, past, refitted}
-use Rattle.rule.specs.Course.{Course, of-fit}
+use Rattle.rule.specs.Course.{Course, after-rounds, of-fit}
 use Rattle.rule.specs.LastLook.{next-settles, next-same}
 
 -- a support within the one that was refitted before it, if any
@@ -97,6 +97,11 @@ module _ (P : Problem) where
     refused-later = λ r cs ws i z l c q. (omega (arith, i), tt);
     refits = λ r cs ws i z l vs q. ap suc i;
   }
+
+  -- a fit that goes on has refitted in each round
+  pub goes-counted : (r : ℕ) {cs : List Float} {ws : List ℕ} → rounds P r ≡ going cs ws → length ws ≡ r
+  unfolding Counts
+  goes-counted r e = subst (Counts r) e (after-rounds P counting r)
 
   -- at any threshold: never more refits than rounds, and each round refitted where they ran out
   pub refits-few : (r : ℕ) → fit P r .refits ≤ r

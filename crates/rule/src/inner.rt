@@ -45,7 +45,7 @@ pub fn needed(solver: Solver, n_rows: usize, n_cols: usize) -> usize
 }
 
 // Theta, target, coefficients and workspace by their lengths.
-fn lengths(task: Task, theta: usize, target: usize, coeffs: usize, space: usize) -> Answer
+pub fn lengths(task: Task, theta: usize, target: usize, coeffs: usize, space: usize) -> Answer
     requires { ⌜ Limited 64 4096 task ⌝ }
     ensures { λ r. ⌜ r ≡ lengths task theta target coeffs space ⌝ }
 {

@@ -40,6 +40,12 @@ pub enum Stop {
     OutOfRounds,
 }
 
+// Where a look first did not find a term: nowhere, or before the refit of this number, at this coefficient.
+pub enum Drop {
+    Never,
+    Before(usize, f64),
+}
+
 // What stands beside the coefficients: bit j of the kept word is one exactly if the final |c(j)| is at least the threshold.
 pub struct Report {
     pub stop: Stop,

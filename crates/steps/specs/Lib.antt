@@ -1,5 +1,6 @@
 -- The words that the rules are written in, and their laws. Assumes nothing.
 pub mod Num
+pub mod Nan
 pub mod Cond
 pub mod Loops
 pub mod Sums

@@ -15,6 +15,7 @@ use Rattle.refusal.specs.declared.Answer.the-variants as A
 use Rattle.refusal.specs.declared.Refusal.{Refusal}
 use Rattle.rule.specs.declared.Task.{Task}
 use Rattle.rule.specs.declared.Stop.{Stop}
+use Rattle.rule.specs.declared.Drop.{Drop}
 use Rattle.rule.specs.declared.Report.{Report}
 use Rattle.rule.specs.declared.Fitted.the-variants as F
 use Rattle.rule.specs.Rule.{reported, pruned, support}
@@ -26,8 +27,8 @@ use Rattle.strlsq.specs.Reports.{Reports}
 
 module _ (task : Task) (theta target : List Float) where
   -- the last pass and the kept word make the report
-  pub reports : (stop : Stop) (refits : ℕ) (kept : Support) (cs cs' : List Float) → length cs ≡ task .cols → length cs' ≡ task .cols
-      → CameTo (problem-of task theta target) (task .setup .«max_iter») stop refits cs
+  pub reports : {j : ℕ} {drop : Drop} (stop : Stop) (refits : ℕ) (kept : Support) (cs cs' : List Float) → length cs ≡ task .cols → length cs' ≡ task .cols
+      → CameTo (problem-of task theta target) (task .setup .«max_iter») j stop refits drop cs
       → cs' ≡ tab (length cs) (λ j. cond (clears (task .setup) j (at cs j)) +zero (at cs j))
       → kept .0 ≡ word (λ j. keeps (task .setup) j (at cs' j)) (length cs')
       → Reports (fit-of task theta target) (record { stop = stop; refits = refits; kept = kept }) cs'

@@ -16,6 +16,7 @@ pub struct Call {
     pub writes: Vec<Slice>,
     /// The workspace and the length of it that is needed.
     pub workspace: Option<(Slice, usize)>,
+    /// A fit's report; a cause stands at its head.
     pub report: [u64; 4],
     /// The column at which a solver refused.
     pub column: [u64; 1],

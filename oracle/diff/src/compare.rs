@@ -5,7 +5,7 @@ use crate::slice::Slice;
 use oracle::bits::{first_difference, same};
 
 /// The answers that leave every slice unchanged.
-const NOTHING_CHANGED: [u64; 8] = [1, 2, 3, 4, 5, 6, 7, 10];
+const NOTHING_CHANGED: [u64; 11] = [1, 2, 3, 4, 5, 6, 7, 10, 11, 12, 13];
 
 /// The first thing in which a call differs from the model: answer, slices, column, report, guards.
 ///

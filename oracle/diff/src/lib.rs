@@ -31,7 +31,7 @@ const _: () = {
         dapmotar_qr dapmotar_solve_least_squares
         dapmotar_strlsq dapmotar_strlsq_qr dapmotar_strlsq_marquardt
         dapmotar_strlsq_workspace dapmotar_strlsq_qr_workspace dapmotar_strlsq_marquardt_workspace
-        dapmotar_respond
+        dapmotar_why dapmotar_respond dapmotar_respond_why
     }
 };
 

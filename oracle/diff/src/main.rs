@@ -1,5 +1,6 @@
 //! The commands of the differential runs.
 
+use diff::frames::{FITBENCH, Responder, WHY};
 use diff::functions::ALL;
 use diff::{drop_in, run, sqrt};
 use oracle::published::check_build;
@@ -11,6 +12,7 @@ const USAGE: &str = "diff SEED COUNT [FUNCTION..]   COUNT calls of each export (
 diff one SEED INDEX FUNCTION   that one call, whole
 diff sqrt COUNT                dapmotar_sqrt against the machine's root on COUNT patterns, and the times
 diff frames SEED COUNT         dapmotar_respond against the reference on COUNT damaged inputs and COUNT/10 made ones
+diff why-frames SEED COUNT     dapmotar_respond_why so
 diff replay SEED               the list of exchanges that the program cases replays, on standard output
 diff drop-in SEED COUNT        the Rust drop-ins against the published functions";
 
@@ -22,7 +24,8 @@ fn main() -> ExitCode {
     let numbers: Vec<Option<u64>> = words.iter().map(|w| w.parse().ok()).collect();
     match (words.as_slice(), numbers.as_slice()) {
         (["sqrt", _], [_, Some(count)]) => run_sqrt(*count),
-        (["frames", ..], [_, Some(seed), Some(count)]) => run_frames(*seed, *count),
+        (["frames", ..], [_, Some(seed), Some(count)]) => run_frames(&FITBENCH, *seed, *count),
+        (["why-frames", ..], [_, Some(seed), Some(count)]) => run_frames(&WHY, *seed, *count),
         (["replay", _], [_, Some(seed)]) => run_replay(*seed),
         (["drop-in", ..], [_, Some(seed), Some(count)]) => run_drop_in(*seed, *count),
         (["one", _, _, name], [_, Some(seed), Some(index), _]) => run_one(*seed, *index, name),
@@ -121,9 +124,9 @@ fn run_drop_in(seed: u64, count: u64) -> ExitCode {
     verdict(differ)
 }
 
-fn run_frames(seed: u64, count: u64) -> ExitCode {
+fn run_frames(responder: &Responder, seed: u64, count: u64) -> ExitCode {
     let start = Instant::now();
-    let (histogram, differ) = diff::frames::many(seed, count, |text| println!("differs: {text}"));
+    let (histogram, differ) = responder.many(seed, count, |text| println!("differs: {text}"));
     print!("{histogram}");
     println!("{differ} differ ({:.0} s)", start.elapsed().as_secs_f64());
     verdict(differ)

@@ -2,9 +2,10 @@
 //! tell each wilful fault of the stand-in apart, document 01's traps first.
 
 use crate::fault::{self, Fault};
-use crate::frames;
+use crate::frames::FITBENCH;
+use oracle::exchange::fit_label;
 use oracle::frames::answered;
-use oracle::generate::{Made, damaged, input, label};
+use oracle::generate::{Made, damaged, input};
 use std::collections::BTreeMap;
 
 /// Only short inputs, so that the list stays small.
@@ -39,7 +40,9 @@ pub fn list(seed: u64) -> Vec<u8> {
         assert_eq!(inputs.len(), OF_A_TRAP, "{trap:?}");
         group(&mut list, &format!("trap {trap:?}"), &inputs);
     }
-    for &fault in Fault::ALL.iter().filter(|fault| !TRAPS.contains(fault)) {
+    // The faults of `why` can't show here.
+    let shown = |fault: &&Fault| !TRAPS.contains(fault) && !fault.is_of_why();
+    for &fault in Fault::ALL.iter().filter(shown) {
         let inputs = telling(seed, fault, OF_A_FAULT);
         if inputs.len() == OF_A_FAULT {
             group(&mut list, &format!("fault {fault:?}"), &inputs);
@@ -73,7 +76,7 @@ fn by_answer(seed: u64) -> BTreeMap<String, Vec<Vec<u8>>> {
     let mut groups: BTreeMap<String, Vec<Vec<u8>>> = BTreeMap::new();
     for made in inputs(seed) {
         let (_, said) = answered(&made.input);
-        let group = groups.entry(label(&made.input, &said)).or_default();
+        let group = groups.entry(fit_label(&made.input, &said)).or_default();
         if group.len() < OF_AN_ANSWER {
             group.push(made.input);
         }
@@ -84,7 +87,7 @@ fn by_answer(seed: u64) -> BTreeMap<String, Vec<Vec<u8>>> {
 /// The first few inputs that a fault answers otherwise.
 fn telling(seed: u64, wrong: Fault, count: usize) -> Vec<Vec<u8>> {
     fault::set(wrong);
-    let told = inputs(seed).filter(|made| frames::one(made).0.is_some());
+    let told = inputs(seed).filter(|made| FITBENCH.one(made).0.is_some());
     let found = told.take(count).map(|made| made.input).collect();
     fault::set(Fault::None);
     found

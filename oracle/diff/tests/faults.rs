@@ -2,9 +2,9 @@
 #![cfg(feature = "stand-in")]
 
 use diff::fault::{self, Fault};
+use diff::frames::{FITBENCH, Responder, WHY};
 use diff::functions::ALL;
-use diff::{drop_in, frames, run, sqrt};
-use oracle::generate::{damaged, input};
+use diff::{drop_in, run, sqrt};
 
 const SEED: u64 = 1;
 
@@ -19,12 +19,13 @@ fn found(calls: u64) -> Option<(&'static str, u64, String)> {
 }
 
 /// The same for frames.
-fn found_in_frames(inputs: u64) -> Option<(&'static str, u64, String)> {
+fn found_in_frames(responder: &Responder, inputs: u64) -> Option<(&'static str, u64, String)> {
+    let reference = &responder.reference;
     (0..inputs).find_map(|index| {
-        [damaged(SEED, index), input(SEED, index)]
+        [reference.damaged, reference.input]
             .iter()
-            .find_map(|made| {
-                let (difference, _) = frames::one(made);
+            .find_map(|make| {
+                let (difference, _) = responder.one(&make(SEED, index));
                 difference.map(|text| ("frames", index, text))
             })
     })
@@ -42,7 +43,8 @@ fn found_among_roots(patterns: u64) -> Option<(&'static str, u64, String)> {
 #[test]
 fn every_fault_is_found_and_nothing_else() {
     assert_eq!(found(3_000), None);
-    assert_eq!(found_in_frames(3_000), None);
+    assert_eq!(found_in_frames(&FITBENCH, 3_000), None);
+    assert_eq!(found_in_frames(&WHY, 3_000), None);
     assert_eq!(found_among_roots(3_000), None);
     for index in 0..3_000 {
         assert_eq!(drop_in::one(SEED, index), None);
@@ -51,9 +53,11 @@ fn every_fault_is_found_and_nothing_else() {
     let mut missed = Vec::new();
     for &fault in Fault::ALL {
         fault::set(fault);
-        let of_frames = format!("{fault:?}").starts_with("Frame");
-        let found = if of_frames {
-            found_in_frames(20_000)
+        let name = format!("{fault:?}");
+        let found = if name.starts_with("Frame") {
+            found_in_frames(&FITBENCH, 20_000)
+        } else if name.starts_with("WhyFrame") {
+            found_in_frames(&WHY, 20_000)
         } else {
             found(20_000)
         };
@@ -61,8 +65,7 @@ fn every_fault_is_found_and_nothing_else() {
             Some((name, index, text)) => println!("{fault:?}: {name} {index}: {text}"),
             None => missed.push(fault),
         }
-        let of_roots = format!("{fault:?}").starts_with("Root");
-        if of_roots && found_among_roots(3_000).is_none() {
+        if name.starts_with("Root") && found_among_roots(3_000).is_none() {
             missed.push(fault);
         }
         fault::set(Fault::None);

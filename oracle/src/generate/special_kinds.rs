@@ -15,11 +15,7 @@ pub fn tied(rng: &mut Rng, size: Size) -> Problem {
     true_target(rng, &mut p, 0.1);
     let setup = p.setup;
     let looks = rng.below(3);
-    p.setup = Setup {
-        threshold: f64::NAN,
-        max_iter: 0,
-        ..setup
-    };
+    p.setup = first_solve_only(setup);
     for look in 0..=looks {
         let coeffs = published(&p);
         let c = coeffs[rng.below(p.cols)].abs();
@@ -30,6 +26,22 @@ pub fn tied(rng: &mut Rng, size: Size) -> Problem {
     }
     p.setup.max_iter = setup.max_iter;
     p
+}
+
+/// No rounds, and a last pass that clears nothing.
+fn first_solve_only(setup: Setup) -> Setup {
+    Setup {
+        threshold: f64::NAN,
+        max_iter: 0,
+        ..setup
+    }
+}
+
+/// The coefficients of the first solve, zeros where it is refused.
+pub fn first_coefficients(p: &Problem) -> Vec<f64> {
+    let mut first = p.clone();
+    first.setup = first_solve_only(p.setup);
+    published(&first)
 }
 
 /// A threshold of zero or below over coefficients that are NaN in part: a dropped term returns.
@@ -180,7 +192,7 @@ fn refit_refused_normal(rng: &mut Rng, size: Size) -> Problem {
 }
 
 /// A column stands twice. Behind another column rounding tells the two apart; alone they are exactly alike.
-fn refit_refused_qr(rng: &mut Rng, size: Size) -> Problem {
+pub fn refit_refused_qr(rng: &mut Rng, size: Size) -> Problem {
     let (rows, _) = shape(rng, size);
     let rows = rows.max(3);
     let before = rng.between(1, 3.min(size.cols - 2));

@@ -1,7 +1,7 @@
 //! The fits and the workspaces that they need.
 
 use super::{Answer, clear, refuse_if};
-use crate::fit::{self, Report};
+use crate::fit::{self, Fit, Report};
 use crate::problem::{Problem, Setup, Solver};
 use crate::refusal::{MAX_COLS, MAX_ROUNDS, MAX_ROWS, Refusal};
 
@@ -35,8 +35,31 @@ pub fn fit(
     coeffs: &mut [f64],
     workspace: &mut [f64],
 ) -> Result<Report, Refusal> {
+    limits_of_a_fit(n_rows, n_cols, setup)?;
+    let fit = fitted(
+        solver, theta, n_rows, n_cols, target, setup, coeffs, workspace,
+    )?;
+    Ok(fit.report)
+}
+
+/// 1, 2 and 3.
+pub fn limits_of_a_fit(n_rows: usize, n_cols: usize, setup: Setup) -> Answer {
     limits(n_rows, n_cols)?;
-    refuse_if(setup.max_iter > MAX_ROUNDS, Refusal::Rounds)?;
+    refuse_if(setup.max_iter > MAX_ROUNDS, Refusal::Rounds)
+}
+
+/// The fit within the limits, or a refusal from 4 on.
+#[allow(clippy::too_many_arguments)]
+pub fn fitted(
+    solver: Solver,
+    theta: &[f64],
+    n_rows: usize,
+    n_cols: usize,
+    target: &[f64],
+    setup: Setup,
+    coeffs: &mut [f64],
+    workspace: &mut [f64],
+) -> Result<Fit, Refusal> {
     refuse_if(theta.len() != n_rows * n_cols, Refusal::Matrix)?;
     refuse_if(target.len() != n_rows, Refusal::RightHandSide)?;
     refuse_if(coeffs.len() != n_cols, Refusal::Output)?;
@@ -53,5 +76,5 @@ pub fn fit(
     let fit = fit::fit(&problem);
     coeffs.copy_from_slice(&fit.coeffs);
     clear(workspace, needed);
-    Ok(fit.report)
+    Ok(fit)
 }

@@ -8,11 +8,13 @@ mod builders;
 mod fits;
 mod qr;
 mod square;
+mod why;
 
 pub use builders::{jtj, jtr};
 pub use fits::{fit, fit_workspace};
 pub use qr::{qr, solve_least_squares};
 pub use square::{invert_spd, solve_lu, solve_normal_equations, solve_spd_cholesky};
+pub use why::why;
 
 use crate::bits::shown;
 use crate::refusal::Refusal;

@@ -10,6 +10,10 @@ use crate::sizes::{Sizes, clear};
 use crate::{builders, qr, root, square};
 use std::slice;
 
+mod why;
+
+pub use why::*;
+
 unsafe fn part<'a, T>(p: *const T, len: usize) -> &'a [T] {
     if len == 0 {
         &[]
@@ -323,6 +327,19 @@ pub unsafe extern "C" fn dapmotar_solve_least_squares(
     unsafe { told(9, solved, column) }
 }
 
+/// The size refusals of a fit.
+fn fit_sizes(fit: &Fit<'_>, coeffs: &[f64], workspace: &[f64]) -> Sizes {
+    let mut sizes = Sizes::default();
+    sizes.columns(fit.cols);
+    sizes.rows(fit.rows);
+    sizes.rounds(fit.max_iter);
+    sizes.matrix(fit.theta.len(), fit.rows, fit.cols);
+    sizes.right_hand_side(fit.target.len(), fit.rows);
+    sizes.output(coeffs.len(), fit.cols);
+    sizes.workspace(workspace.len(), needed_by(fit.by, fit.rows, fit.cols));
+    sizes
+}
+
 /// Any of the fits, its sizes tested and its slices written.
 unsafe fn fit(
     fit: Fit<'_>,
@@ -331,14 +348,7 @@ unsafe fn fit(
     report: *mut [u64; 4],
 ) -> u64 {
     let needed = needed_by(fit.by, fit.rows, fit.cols);
-    let mut sizes = Sizes::default();
-    sizes.columns(fit.cols);
-    sizes.rows(fit.rows);
-    sizes.rounds(fit.max_iter);
-    sizes.matrix(fit.theta.len(), fit.rows, fit.cols);
-    sizes.right_hand_side(fit.target.len(), fit.rows);
-    sizes.output(coeffs.len(), fit.cols);
-    sizes.workspace(workspace.len(), needed);
+    let sizes = fit_sizes(&fit, coeffs, workspace);
     if sizes.first() != 0 {
         if fault::is(Fault::ReportWrittenWhenRefused) {
             unsafe { *report = [0; 4] };

@@ -12,6 +12,11 @@ macro_rules! faults {
         impl Fault {
             /// Every fault.
             pub const ALL: &'static [Fault] = &[$(Fault::$fault,)*];
+
+            /// Does it show in `why` and its program only?
+            pub fn is_of_why(self) -> bool {
+                format!("{self:?}").starts_with("Why")
+            }
         }
     };
 }
@@ -193,6 +198,51 @@ faults! {
     FrameColumnLimit
     FrameRowLimit
     FrameRefusalDecimal
+    // Why: its refusals, its causes, what it writes, its program.
+    WhyCodeLast
+    WhyCodeCut
+    WhyCodeByColumns
+    WhySolverIgnored
+    WhyThresholdZero
+    WhyThresholdNan
+    WhyInfinityRefused
+    WhyThresholdFirst
+    WhyThresholdAfterLengths
+    WhyTermBeforeThreshold
+    WhyTermAfterLengths
+    WhyTermOneMore
+    WhyTermOfLimit
+    WhyTermCut
+    WhyFirstRefusedCleared
+    WhyAllCleared
+    WhyLookCleared
+    WhyLastLookDrops
+    WhyRefitOneLess
+    WhyEmptyRefit
+    WhyLastRefit
+    WhyRefitAlways
+    WhyPlaceForTerm
+    WhyFinalValue
+    WhyClearedValue
+    WhyMagnitude
+    WhyZeroUnsigned
+    WhyZeroKept
+    WhyZeroedKept
+    WhyZeroedFinal
+    WhyNanZeroed
+    WhyWrittenWhenRefused
+    WhyCauseTooLong
+    WhyCoeffsBeforeLastPass
+    WhyWorkspaceLeft
+    WhyFrameThresholdAfterRows
+    WhyFrameThresholdBeforeLimits
+    WhyFrameNoColumnsLine
+    WhyFrameReportFirst
+    WhyFrameKeptLeftOut
+    WhyFrameRefitShort
+    WhyFrameValueFirst
+    WhyFrameNanOtherBits
+    WhyFrameRefusalDecimal
 }
 
 static CURRENT: AtomicU8 = AtomicU8::new(0);

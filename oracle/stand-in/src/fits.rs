@@ -30,8 +30,31 @@ pub struct Fit<'a> {
 /// The refused term of a report where no solve was refused.
 const NO_TERM: u64 = 255;
 
+/// What a fit saw on its way.
+pub struct Seen {
+    /// The support that was refitted last.
+    last: u64,
+    /// The term at which a solve refused.
+    term: u64,
+    /// Each look of a round: the coefficients and their support.
+    pub looks: Vec<(Vec<f64>, u64)>,
+    /// The coefficients before the last pass.
+    pub ended: Vec<f64>,
+}
+
+impl Default for Seen {
+    fn default() -> Seen {
+        Seen {
+            last: 0,
+            term: NO_TERM,
+            looks: Vec::new(),
+            ended: Vec::new(),
+        }
+    }
+}
+
 /// A term's bit; none past 64.
-fn bit(j: usize) -> u64 {
+pub fn bit(j: usize) -> u64 {
     1u64.checked_shl(j as u32).unwrap_or(0)
 }
 
@@ -92,12 +115,17 @@ impl Kept {
 impl Fit<'_> {
     /// The coefficients into their slice, and the report: stop, refits, kept word, refused term.
     pub fn run(&self, coeffs: &mut [f64]) -> [u64; 4] {
+        self.run_seen(coeffs, &mut Seen::default())
+    }
+
+    /// The same, and what it saw.
+    pub fn run_seen(&self, coeffs: &mut [f64], seen: &mut Seen) -> [u64; 4] {
         if !fault::is(Fault::OldValuesStay) {
             coeffs.fill(0.0);
         }
-        let mut last = 0;
-        let mut term = NO_TERM;
-        let (mut stop, mut refits) = self.rounds(coeffs, &mut last, &mut term);
+        let (mut stop, mut refits) = self.rounds(coeffs, seen);
+        let (last, mut term) = (seen.last, seen.term);
+        seen.ended = coeffs.to_vec();
         for c in coeffs.iter_mut() {
             let small = abs(*c) < self.threshold
                 || abs(*c) == self.threshold && fault::is(Fault::LastPassLessOrEqual);
@@ -136,8 +164,8 @@ impl Fit<'_> {
         [stop, refits, kept, term]
     }
 
-    /// The first solve and the rounds: stop and refits, and the term of a refused solve.
-    fn rounds(&self, coeffs: &mut [f64], last: &mut u64, term: &mut u64) -> (u64, u64) {
+    /// The first solve and the rounds: stop and refits.
+    fn rounds(&self, coeffs: &mut [f64], seen: &mut Seen) -> (u64, u64) {
         if self.rows == 0 || self.cols == 0 {
             return (0, 0);
         }
@@ -146,14 +174,14 @@ impl Fit<'_> {
         let values = match self.solve(&mut kept, &all, false) {
             Ok(values) => values,
             Err(col) => {
-                *term = col as u64;
+                seen.term = col as u64;
                 return (1, 0);
             }
         };
         coeffs.copy_from_slice(&values);
         let mut refits = 0;
         if fault::is(Fault::LastSupportStartsFull) {
-            *last = all.iter().fold(0, |w, &j| w | bit(j));
+            seen.last = all.iter().fold(0, |w, &j| w | bit(j));
         }
         let rounds = if fault::is(Fault::OneRoundMore) {
             self.max_iter + 1
@@ -163,17 +191,18 @@ impl Fit<'_> {
         let rounds = fault::or(rounds, Fault::OneRoundLess, rounds.saturating_sub(1));
         for _ in 0..rounds {
             let support = self.support(coeffs);
-            if support == 0 && !(fault::is(Fault::SettledTestedFirst) && *last == 0) {
+            seen.looks.push((coeffs.to_vec(), support));
+            if support == 0 && !(fault::is(Fault::SettledTestedFirst) && seen.last == 0) {
                 if !fault::is(Fault::EmptyKeepsValues) {
                     coeffs.fill(0.0);
                 }
                 return (2, refits);
             }
-            if support == *last {
+            if support == seen.last {
                 return (4, refits);
             }
-            if !(fault::is(Fault::LastSupportNotKept) && *last != 0) {
-                *last = support;
+            if !(fault::is(Fault::LastSupportNotKept) && seen.last != 0) {
+                seen.last = support;
             }
             refits += 1;
             if fault::is(Fault::FitsOnce) {
@@ -188,7 +217,7 @@ impl Fit<'_> {
                     } else {
                         Fault::TermIsPlace
                     };
-                    *term = fault::or(terms[col], place, col) as u64;
+                    seen.term = fault::or(terms[col], place, col) as u64;
                     if !fault::is(Fault::RefusedRefitKeepsValues) {
                         coeffs.fill(0.0);
                     }
@@ -201,7 +230,7 @@ impl Fit<'_> {
                 coeffs[fault::or(term_idx, Fault::ScatterByPlace, col)] = values[col];
             }
         }
-        (self.last_look(coeffs, refits, *last), refits)
+        (self.last_look(coeffs, refits, seen.last), refits)
     }
 
     /// Rounds used up: after at least one refit one more look, and its stop.
@@ -225,7 +254,7 @@ impl Fit<'_> {
     }
 
     /// The terms at or above the threshold.
-    fn support(&self, coeffs: &[f64]) -> u64 {
+    pub fn support(&self, coeffs: &[f64]) -> u64 {
         let kept = |j: &usize| {
             let c = abs(coeffs[*j]);
             if fault::is(Fault::LookKeepsNan) {

@@ -1,15 +1,28 @@
-//! The bench program's exchange.
+//! The exchanges of the bench program and of `why`.
 
 use crate::fault::{self, Fault};
 use crate::fits::{By, Fit};
 
 pub fn respond(input: &[u8]) -> Vec<u8> {
-    match problem(input) {
+    match problem(input, |_| true) {
         Ok(problem) => problem.answer().into_bytes(),
-        Err(number) if fault::is(Fault::FrameRefusalDecimal) => {
-            format!("ff{number:02}\n").into_bytes()
-        }
-        Err(number) => format!("ff{number:02x}\n").into_bytes(),
+        Err(number) => refusal(number, Fault::FrameRefusalDecimal),
+    }
+}
+
+/// A line for each term, for a threshold above zero.
+pub fn respond_why(input: &[u8]) -> Vec<u8> {
+    match problem(input, |threshold| threshold > 0.0) {
+        Ok(problem) => problem.why().into_bytes(),
+        Err(number) => refusal(number, Fault::WhyFrameRefusalDecimal),
+    }
+}
+
+fn refusal(number: u64, decimal: Fault) -> Vec<u8> {
+    if fault::is(decimal) {
+        format!("ff{number:02}\n").into_bytes()
+    } else {
+        format!("ff{number:02x}\n").into_bytes()
     }
 }
 
@@ -26,9 +39,8 @@ struct Problem {
 }
 
 impl Problem {
-    fn answer(&self) -> String {
-        let mut coeffs = vec![0.0; self.cols];
-        let fit = Fit {
+    fn fit(&self) -> Fit<'_> {
+        Fit {
             by: self.by,
             theta: &self.theta,
             rows: self.rows,
@@ -37,8 +49,37 @@ impl Problem {
             threshold: self.threshold,
             lambda: self.lambda,
             max_iter: self.max_iter,
-        };
-        let [stop, refits, kept, term] = fit.run(&mut coeffs);
+        }
+    }
+
+    fn why(&self) -> String {
+        if self.cols == 0 && fault::is(Fault::WhyFrameNoColumnsLine) {
+            return "\n".into();
+        }
+        let mut text = String::new();
+        if fault::is(Fault::WhyFrameReportFirst) {
+            let [stop, refits, ..] = self.fit().run(&mut vec![0.0; self.cols]);
+            text += &format!("{stop:02x}{refits:04x}\n");
+        }
+        for (code, refit, value) in self.fit().causes(&mut vec![0.0; self.cols]) {
+            let refit = if fault::is(Fault::WhyFrameRefitShort) {
+                format!("{refit:02x}")
+            } else {
+                format!("{refit:04x}")
+            };
+            let value = shown(value, Fault::WhyFrameNanOtherBits);
+            if fault::is(Fault::WhyFrameValueFirst) {
+                text += &format!("{code:02x}{value}{refit}\n");
+            } else if !(code == 2 && fault::is(Fault::WhyFrameKeptLeftOut)) {
+                text += &format!("{code:02x}{refit}{value}\n");
+            }
+        }
+        text
+    }
+
+    fn answer(&self) -> String {
+        let mut coeffs = vec![0.0; self.cols];
+        let [stop, refits, kept, term] = self.fit().run(&mut coeffs);
         let kept = if fault::is(Fault::FrameKeptShort) {
             format!("{kept:x}")
         } else {
@@ -58,16 +99,22 @@ impl Problem {
         };
         let mut text = format!("{stop:02x}{refits:04x}{first}\n");
         for c in coeffs {
-            let one = fault::or(0x7ff8 << 48, Fault::FrameNanOtherBits, 0xfff8 << 48);
-            let bits = if c.is_nan() { one } else { c.to_bits() };
-            text += &format!("{bits:016x}\n");
+            text += &shown(c, Fault::FrameNanOtherBits);
+            text.push('\n');
         }
         text
     }
 }
 
-/// The problem in an input, or the refusal's number.
-fn problem(input: &[u8]) -> Result<Problem, u64> {
+/// A number's digits, every NaN's alike.
+fn shown(c: f64, other_bits: Fault) -> String {
+    let one = fault::or(0x7ff8 << 48, other_bits, 0xfff8 << 48);
+    let bits: u64 = if c.is_nan() { one } else { c.to_bits() };
+    format!("{bits:016x}")
+}
+
+/// The problem in an input, or the refusal's number: 12 where its threshold is not accepted.
+fn problem(input: &[u8], accepted: fn(f64) -> bool) -> Result<Problem, u64> {
     let mut lines = Lines(input);
     let header = lines.take(44);
     if fault::is(Fault::FrameLimitsBeforeHeader)
@@ -85,6 +132,15 @@ fn problem(input: &[u8]) -> Result<Problem, u64> {
         4 if fault::is(Fault::FrameFourthSolver) => By::Marquardt,
         _ => return Err(11),
     };
+    let threshold = f64::from_bits(number(&header[12..28]));
+    let twelve = |now| {
+        if now && !accepted(threshold) {
+            Err(12u64)
+        } else {
+            Ok(())
+        }
+    };
+    twelve(fault::is(Fault::WhyFrameThresholdBeforeLimits))?;
     let rows = number(&header[2..6]) as usize;
     let cols = number(&header[6..8]) as usize;
     let max_iter = number(&header[8..12]) as usize;
@@ -105,6 +161,7 @@ fn problem(input: &[u8]) -> Result<Problem, u64> {
             return Err(limits[i].0);
         }
     }
+    twelve(!fault::is(Fault::WhyFrameThresholdAfterRows))?;
     let (mut theta, mut target) = (Vec::new(), Vec::new());
     for _ in 0..rows {
         if cols == 0 && fault::is(Fault::FrameNoColumnsNoRows) {
@@ -119,12 +176,13 @@ fn problem(input: &[u8]) -> Result<Problem, u64> {
     if !lines.0.is_empty() && !fault::is(Fault::FrameTailAccepted) {
         return Err(11);
     }
+    twelve(true)?;
     Ok(Problem {
         by,
         rows,
         cols,
         max_iter,
-        threshold: f64::from_bits(number(&header[12..28])),
+        threshold,
         lambda: f64::from_bits(number(&header[28..44])),
         theta,
         target,

@@ -1,6 +1,6 @@
-//! A stand-in for libcapi.a: the same exports, written in Rust from document 01, with one wilful fault at will.
+//! A stand-in for libcapi.a: the same exports, written in Rust from the documents, with one wilful fault at will.
 //!
-//! It shows that the differential runs find what they should, and it is a second reading of document 01 beside the
+//! It shows that the differential runs find what they should, and it is a second reading of the documents beside the
 //! published Rust. It is no part of the product.
 
 #![allow(clippy::needless_range_loop)]
@@ -16,3 +16,4 @@ mod qr;
 mod root;
 mod sizes;
 mod square;
+mod why;

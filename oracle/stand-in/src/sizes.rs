@@ -61,6 +61,25 @@ impl Sizes {
         );
     }
 
+    /// Whether a solver's code is known.
+    pub fn code(&mut self, known: bool) {
+        self.add(11, !known);
+    }
+
+    pub fn threshold(&mut self, x: f64) {
+        let accepted = x > 0.0
+            || x == 0.0 && fault::is(Fault::WhyThresholdZero)
+            || x.is_nan() && fault::is(Fault::WhyThresholdNan);
+        let infinite = x == f64::INFINITY && fault::is(Fault::WhyInfinityRefused);
+        self.add(12, !accepted || infinite);
+    }
+
+    pub fn term(&mut self, term: usize, cols: usize) {
+        let cols = fault::or(cols, Fault::WhyTermOfLimit, 64);
+        let one_more = term == cols && fault::is(Fault::WhyTermOneMore);
+        self.add(13, term >= cols && !one_more);
+    }
+
     fn add(&mut self, number: u64, applies: bool) {
         if applies {
             self.0.push(number);
@@ -96,6 +115,23 @@ impl Sizes {
         } else {
             self.first()
         }
+    }
+
+    /// The first that applies to `why`.
+    pub fn first_of_why(&self) -> u64 {
+        self.first_of(if fault::is(Fault::WhyTermBeforeThreshold) {
+            [11, 1, 2, 3, 13, 12, 4, 5, 6, 7]
+        } else if fault::is(Fault::WhyThresholdFirst) {
+            [11, 12, 1, 2, 3, 13, 4, 5, 6, 7]
+        } else if fault::is(Fault::WhyThresholdAfterLengths) {
+            [11, 1, 2, 3, 13, 4, 5, 6, 7, 12]
+        } else if fault::is(Fault::WhyTermAfterLengths) {
+            [11, 1, 2, 3, 12, 4, 5, 6, 7, 13]
+        } else if fault::is(Fault::WhyCodeLast) {
+            [1, 2, 3, 12, 13, 4, 5, 6, 7, 11]
+        } else {
+            [11, 1, 2, 3, 12, 13, 4, 5, 6, 7]
+        })
     }
 
     fn first_of<const N: usize>(&self, order: [u64; N]) -> u64 {

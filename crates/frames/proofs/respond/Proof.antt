@@ -3,10 +3,10 @@ use mathlib.Core.Path.{_≡_, sym, _∙_}
 use native.Mathlib.Omega.{arith}
 use borrow.Author.Needs.{needs}
 use Rattle.reader.specs.Header.{head-of}
-use Rattle.frames.specs.Exchange.{answer-lines}
+use Rattle.exchange.specs.Exchange.{answer-lines}
+use Rattle.exchange.specs.Laws.{exchanged}
 use Rattle.reader.specs.declared.inner.header.Head.the-variants.{Good}
 use Rattle.frames.specs.Cases.{answer-wrong, answer-good, was-accepted}
-use Rattle.frames.proofs.ExchangeLaws.{exchange}
 use Rattle.frames.proofs.respond.Statement.{statement}
 use Rattle.frames.proofs.respond.Tie as tie
 
@@ -29,7 +29,7 @@ write-refusal-requires c κs = search needs
 returns : tie.Need-returns
 returns c =
     let told = c .before .before in
-    exchange (answer-wrong _ (sym (told .before .before .read-header .ensures) ∙ told .enum-told .given .1)) (c .write-refusal .ensures)
+    exchanged (answer-wrong _ (sym (told .before .before .read-header .ensures) ∙ told .enum-told .given .1)) (c .write-refusal .ensures)
 
 check-requires : tie.Need-check-requires
 check-requires c κs = search needs
@@ -52,14 +52,14 @@ returns-2 : tie.Need-returns-2
 unfolding answer-lines
 returns-2 c =
     let checked = c .before .before .before .before in
-    exchange (answer-good _ _ _ (head (checked .before .before)) (sym (checked .check .ensures) ∙ c .before .before .enum-told2 .given .1)) (c .fit-rows .ensures)
+    exchanged (answer-good _ _ _ (head (checked .before .before)) (sym (checked .check .ensures) ∙ c .before .before .enum-told2 .given .1)) (c .fit-rows .ensures)
 
 returns-3 : tie.Need-returns-3
 unfolding answer-lines
 returns-3 c =
     let refused = c .before .before .before in
     let checked = refused .before .before in
-    exchange (answer-good _ _ _ (head (checked .before .before)) (sym (checked .check .ensures) ∙ refused .w .given .1)) (c .write-refusal2 .ensures)
+    exchanged (answer-good _ _ _ (head (checked .before .before)) (sym (checked .check .ensures) ∙ refused .w .given .1)) (c .write-refusal2 .ensures)
 
 pub respond-spec : {M : Type 1} → statement M
 respond-spec =

@@ -36,6 +36,12 @@ enum-told-8 c = search needs
 enum-told-9 : tie.Need-enum-told-9
 enum-told-9 c = search needs
 
+enum-told-10 : tie.Need-enum-told-10
+enum-told-10 c = search needs
+
+enum-told-11 : tie.Need-enum-told-11
+enum-told-11 c = search needs
+
 returns : tie.Need-returns
 returns c = search needs
 
@@ -69,6 +75,12 @@ returns-10 c = search needs
 returns-11 : tie.Need-returns-11
 returns-11 c = search needs
 
+returns-12 : tie.Need-returns-12
+returns-12 c = search needs
+
+returns-13 : tie.Need-returns-13
+returns-13 c = search needs
+
 pub column-of-spec : {M : Type 1} → statement M
 column-of-spec =
     tie.close
@@ -84,6 +96,8 @@ column-of-spec =
     enum-known-w-2
     enum-told-8
     enum-told-9
+    enum-told-10
+    enum-told-11
     returns
     returns-2
     returns-3
@@ -94,4 +108,6 @@ column-of-spec =
     returns-8
     returns-9
     returns-10
-    returns-11)
+    returns-11
+    returns-12
+    returns-13)

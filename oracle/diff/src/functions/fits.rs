@@ -100,7 +100,8 @@ fn several_refits(rng: &mut Rng, solver: Solver) -> Call {
     of(rng, Plan::RIGHT, solver, problem)
 }
 
-fn of(rng: &mut Rng, plan: Plan, solver: Solver, problem: Problem) -> Call {
+/// The call of a problem; the workspace may be short.
+pub fn of(rng: &mut Rng, plan: Plan, solver: Solver, problem: Problem) -> Call {
     let sizes = [problem.rows, problem.cols];
     call(
         rng,
@@ -115,7 +116,7 @@ fn of(rng: &mut Rng, plan: Plan, solver: Solver, problem: Problem) -> Call {
 }
 
 /// Any sizes, lengths and limits.
-fn any(rng: &mut Rng, plan: Plan, solver: Solver) -> Call {
+pub fn any(rng: &mut Rng, plan: Plan, solver: Solver) -> Call {
     let (rows, cols) = (plan.size(rng, MAX_ROWS), plan.size(rng, MAX_COLS));
     let theta_len = plan.length(rng, rows.checked_mul(cols));
     let target_len = plan.length(rng, Some(rows));
@@ -189,13 +190,18 @@ fn library(call: &mut Call, export: raw::Fit) -> u64 {
     }
 }
 
-fn run_model(call: &mut Call, solver: Solver) -> u64 {
-    let (workspace, _) = call.workspace.as_mut().expect("it has one");
-    let setup = Setup {
+/// The setup of a call.
+pub fn setup(call: &Call) -> Setup {
+    Setup {
         threshold: call.floats[0],
         lambda: call.floats[1],
         max_iter: call.sizes[2],
-    };
+    }
+}
+
+fn run_model(call: &mut Call, solver: Solver) -> u64 {
+    let setup = setup(call);
+    let (workspace, _) = call.workspace.as_mut().expect("it has one");
     let answer = model::fit(
         solver,
         call.reads[0].numbers(),

@@ -5,13 +5,14 @@ mod fits;
 mod qr;
 mod scalars;
 mod square;
+mod why;
 
 use crate::call::Function;
 pub use fits::SIZE as FIT_SIZE;
 
 /// Every export; `jtj` and `strlsq` once more at the sizes of a walk by pages, and the fits by the normal equations
 /// with many refits.
-pub const ALL: [Function; 21] = [
+pub const ALL: [Function; 22] = [
     scalars::SQRT,
     scalars::ABS,
     builders::JTJ,
@@ -30,6 +31,7 @@ pub const ALL: [Function; 21] = [
     fits::STRLSQ_REFITS,
     fits::STRLSQ_PAGES,
     fits::MARQUARDT_REFITS,
+    why::WHY,
     scalars::STRLSQ_WORKSPACE,
     scalars::STRLSQ_QR_WORKSPACE,
     scalars::STRLSQ_MARQUARDT_WORKSPACE,

@@ -58,14 +58,14 @@ returns c =
     let at-if1 = at-clear .before .before in
     let begin = at-if1 .before .before .before .before .before .before in
     let a = begin .args in
-    no-rows (a .task) (now (a .theta)) (now (a .target)) (at-if1 .if1 .taken) (zeroed (a .task .cols) (now (a .coeffs)) (begin .pre .coeffs-long) (at-clear .clear .ensures))
+    no-rows (a .task) (now (a .theta)) (now (a .target)) (a .term-idx .0) (at-if1 .if1 .taken) (zeroed (a .task .cols) (now (a .coeffs)) (begin .pre .coeffs-long) (at-clear .clear .ensures))
 
 returns-2 : tie.Need-returns-2
 returns-2 c =
     let at-if1 = c .before .before in
     let begin = at-if1 .before .before .before .before .before .before in
     let a = begin .args in
-    no-cols (a .task) (now (a .theta)) (now (a .target)) (at-if1 .if1 .left) (c .if2 .taken) (none-left (a .task .cols) (now (a .coeffs)) (c .if2 .taken) (begin .pre .coeffs-long))
+    no-cols (a .task) (now (a .theta)) (now (a .target)) (a .term-idx .0) (at-if1 .if1 .left) (c .if2 .taken) (none-left (a .task .cols) (now (a .coeffs)) (c .if2 .taken) (begin .pre .coeffs-long))
 
 keep-requires : tie.Need-keep-requires
 keep-requires c κs = search needs
@@ -93,7 +93,7 @@ rounds-requires c κs =
     let a = begin s .args in (
       still (begin s .pre) (s .solve-terms .kept .1 .1 .1 .1 .0) (s .solve-terms .kept .1 .1 .1 .1 .1 .0 ∙ keeping (all s) .keep .kept .1 .1 .1 .0),
       s .solve-terms .ensures .1,
-      first-goes (a .task) (now (a .theta)) (now (a .target)) (some-rows (some (all s))) (some-cols (some (all s))) (begin s .pre .sized .limited .few-cols)
+      first-goes (a .task) (now (a .theta)) (now (a .target)) (a .term-idx .0) (some-rows (some (all s))) (some-cols (some (all s))) (begin s .pre .sized .limited .few-cols)
           (all s .full .result .0) (all s .full .ensures) (s .solve-terms .result) (new-coeffs s) (s .solve-terms .ensures .0) (told .enum-told .given .1),
     )
 
@@ -124,7 +124,7 @@ returns-4 c =
     let refused = at-clear .before .before .before in
     let s = refused .before .before .before .before .before .before in
     let a = begin s .args in
-    first-refused (a .task) (now (a .theta)) (now (a .target)) (some-rows (some (all s))) (some-cols (some (all s))) (begin s .pre .sized .limited .few-cols)
+    first-refused (a .task) (now (a .theta)) (now (a .target)) (a .term-idx .0) (some-rows (some (all s))) (some-cols (some (all s))) (begin s .pre .sized .limited .few-cols)
     (all s .full .result .0) (all s .full .ensures) (s .solve-terms .result) (new-coeffs s) (s .solve-terms .ensures .0)
     _ _ (refused .term .given .1) (new-long s) (at-clear .clear2 .ensures)
 

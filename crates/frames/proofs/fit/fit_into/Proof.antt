@@ -1,9 +1,23 @@
 -- `fit_into` fits what is ready, and writes the report and the coefficients.
-use native.Mathlib.Omega.{arith}
+use mathlib.Core.List.{List, _++_}
+use Prim.Native.Nat.{ℕ}
 use borrow.Author.Needs.{needs}
-use Rattle.frames.proofs.FitLaws.{ready-within, fit-written}
+use lib.Ieee.{Float}
+use Rattle.hex.specs.Put.{Written}
+use Rattle.rule.specs.Rule.{Fit}
+use Rattle.rule.specs.declared.Report.{Report}
+use Rattle.strlsq.specs.Reports.{Reports}
+use Rattle.writer.specs.Answer.{report-line, coefficient-lines}
+use Rattle.exchange.specs.Room.{ready-within}
+use Rattle.frames.specs.Exchange.{fit-lines}
 use Rattle.frames.proofs.fit.fit_into.Statement.{statement}
 use Rattle.frames.proofs.fit.fit_into.Tie as tie
+
+-- what is written of a fit is its lines
+fit-written : {f : Fit} {report : Report} {cs : List Float} {was out : List ℕ} {n : ℕ} → Reports f report cs
+    → Written 0 (report-line report ++ coefficient-lines cs) was out n → Written 0 (fit-lines f) was out n
+unfolding fit-lines
+fit-written p w = rw (p .report, p .coeffs) at w
 
 fit-in-requires : tie.Need-fit-in-requires
 fit-in-requires c κs =
@@ -25,8 +39,8 @@ same-length-3 c = search needs
 returns : tie.Need-returns
 returns c =
     let at-write-fit = c .before .before in
-    let after-fit = at-write-fit .before .before .before .before .before .before .before in
-    fit-written (after-fit .fit-in .ensures) (at-write-fit .write-fit .ensures)
+    let after-fit = at-write-fit .before .before .before .before .before .before .before .before in
+    fit-written (after-fit .fit-in .ensures .0) (at-write-fit .write-fit .ensures)
 
 pub fit-into-spec : {M : Type 1} → statement M
 fit-into-spec = tie.close (tie.spec fit-in-requires write-fit-requires same-length same-length-2 same-length-3 returns)

@@ -1,28 +1,22 @@
 -- `fit_rows` lends on what was read: theta and target as the definition has them.
 use native.Mathlib.Omega.{arith}
 use borrow.Author.Needs.{needs}
-use Rattle.frames.proofs.Accepted.{theta-room, rows-fine, read-sizes, read-fit}
+use Rattle.exchange.specs.Reading.{theta-room, theta-lent, target-lent, lent-sizes}
+use Rattle.frames.specs.Exchange.{fit-asked}
 use Rattle.frames.proofs.fit.fit_rows.Statement.{statement}
 use Rattle.frames.proofs.fit.fit_rows.Tie as tie
 
 mul-n : tie.Need-mul-n
-mul-n c = omega (arith, theta-room (c .before .before .pre .0 .limited))
+mul-n c = omega (arith, theta-room (c .before .before .before .pre .0 .limited))
 
-slice-aggregate-read-theta : tie.Need-slice-aggregate-read-theta
-slice-aggregate-read-theta c = search needs
+slice-aggregate-read-rows : tie.Need-slice-aggregate-read-rows
+slice-aggregate-read-rows c = search needs
 
-read-theta-requires : tie.Need-read-theta-requires
-read-theta-requires c κs =
-    let ok = c .before .before .before .pre .0 in
-    (rows-fine ok, theta-room (ok .limited))
+slice-aggregate-read-rows-2 : tie.Need-slice-aggregate-read-rows-2
+slice-aggregate-read-rows-2 c = search needs
 
-slice-aggregate-read-target : tie.Need-slice-aggregate-read-target
-slice-aggregate-read-target c = search needs
-
-read-target-requires : tie.Need-read-target-requires
-read-target-requires c κs =
-    let ok = c .before .before .before .before .before .before .pre .0 in
-    (rows-fine ok, ok .limited .few-rows)
+read-rows-requires : tie.Need-read-rows-requires
+read-rows-requires c κs = search needs
 
 sub-fit-read : tie.Need-sub-fit-read
 sub-fit-read c = search needs
@@ -46,24 +40,21 @@ part-fit-read-end-2 c = omega arith
 
 fit-read-requires : tie.Need-fit-read-requires
 fit-read-requires c κs =
-    let after-target = c .before .before .before .before .before .before in
-    let after-theta = after-target .before .before .before in
-    let start = after-theta .before .before .before .before in
-    (start .pre .0 .limited, read-sizes _ _ _ _ (after-theta .read-theta .ensures) (after-target .read-target .ensures) (start .pre .0), omega arith)
+    let at-read = c .before .before .before .before .before .before .before in
+    let start = at-read .before .before .before .before .before .before in
+    (start .pre .0 .limited, lent-sizes (at-read .read-rows .ensures) (start .pre .0), omega arith)
 
 same-length : tie.Need-same-length
 same-length c = search needs
 
 returns : tie.Need-returns
+unfolding fit-asked
 returns c =
     let at-fit-read = c .before .before in
-    let after-target = at-fit-read .before .before .before .before .before .before .before in
-    let after-theta = after-target .before .before .before in
-    let start = after-theta .before .before .before .before in
-    let same = read-fit (start .args .s .now) (start .args .task) _ _ (after-theta .read-theta .ensures) (after-target .read-target .ensures) in
-    rw same at (at-fit-read .fit-read .ensures)
+    let has = at-fit-read .before .before .before .before .before .before .before .before .read-rows .ensures in
+    rw (theta-lent has, target-lent has) at (at-fit-read .fit-read .ensures)
 
 pub fit-rows-spec : {M : Type 1} → statement M
 fit-rows-spec =
-    tie.close (tie.spec mul-n slice-aggregate-read-theta read-theta-requires slice-aggregate-read-target read-target-requires sub-fit-read
-    part-fit-read-start part-fit-read-end sub-fit-read-2 part-fit-read-start-2 part-fit-read-end-2 fit-read-requires same-length returns)
+    tie.close (tie.spec mul-n slice-aggregate-read-rows slice-aggregate-read-rows-2 read-rows-requires sub-fit-read part-fit-read-start
+    part-fit-read-end sub-fit-read-2 part-fit-read-start-2 part-fit-read-end-2 fit-read-requires same-length returns)

@@ -2,7 +2,8 @@
 use mathlib.Core.Path.{sym, ap, _∙_}
 use borrow.Author.Needs.{needs}
 use lib.Ieee.{binary64, ofBits}
-use Rattle.hex.proofs.Floats.{zero-over-zero, pattern-nan, pattern-fine}
+use Rattle.steps.specs.Nan.{zero-over-zero}
+use Rattle.hex.proofs.Floats.{pattern-nan, pattern-fine}
 use Rattle.hex.proofs.inner.float.Statement.{statement}
 use Rattle.hex.proofs.inner.float.Tie as tie
 

@@ -1,6 +1,6 @@
 -- `rounds` meets its contract. The loop's invariant: after this many rounds, each of which refitted, the rule goes on with these coefficients and this last support,
--- and what the fit keeps in its workspace is there: it outlives each solve.
-use mathlib.Core.Path.{_≡_, refl, subst, _∙_}
+-- the term that is watched was dropped where the rule says, and what the fit keeps in its workspace is there: it outlives each solve.
+use mathlib.Core.Path.{_≡_, refl, ap, subst, _∙_}
 use mathlib.Core.List.{List, []}
 use Prim.Native.Nat.{ℕ, _-_, _≤_, _<_}
 use native.Mathlib.Omega.{arith}
@@ -8,24 +8,25 @@ use lib.ListN.{length}
 use lib.Ieee.{Float}
 use borrow.Author.Needs.{needs}
 use denote.Ref.{now}
-use Rattle.rule.specs.Rule.{Problem, rounds}
+use Rattle.rule.specs.Rule.{Problem, going, rounds}
+use Rattle.rule.specs.Dropped.{drops, or-else, dropped}
 use Rattle.rule.specs.Fits.{problem-of}
 use Rattle.rule.specs.Sizes.{Ready, still}
 use Rattle.refit.specs.Parts.{Kept}
 use Rattle.rounds.specs.Turned.{Turned}
 use Rattle.rounds.specs.declared.inner.Turn.{Turn}
 use Rattle.rounds.proofs.Turns.{Going, used-up, goes-on, ends-empty, ends-settled, ends-refused}
-use Rattle.rounds.proofs.Look.{support-found}
+use Rattle.rounds.proofs.Look.{support-found, look-drops}
 use Rattle.rounds.proofs.inner.rounds.Statement.{statement}
 use Rattle.rounds.proofs.inner.rounds.Tie as tie
 
 abbrev Inv-loop : tie.InvT-loop
-Inv-loop task theta target coeffs₀ ws₀ setup last₀ refits₀ refits-end coeffs ws last refits =
+Inv-loop task theta target term-idx coeffs₀ ws₀ setup last₀ drop₀ refits₀ refits-end coeffs ws last drop refits =
     (refits-end ≡ task .setup .«max_iter») × (refits ≤ refits-end) × (length coeffs ≡ length coeffs₀) × (length ws ≡ length ws₀)
-    × Going (problem-of task theta target) refits coeffs (last .0) × Kept task theta target ws
+    × Going (problem-of task theta target) refits (term-idx .0) drop coeffs (last .0) × Kept task theta target ws
 
 abbrev μ-loop : tie.MeasureT-loop
-μ-loop task theta target coeffs₀ ws₀ setup last₀ refits₀ refits-end coeffs ws last refits = refits-end - refits
+μ-loop task theta target term-idx coeffs₀ ws₀ setup last₀ drop₀ refits₀ refits-end coeffs ws last drop refits = refits-end - refits
 
 -- a turn of the loop
 module _ (c : tie.In-loop Inv-loop μ-loop) where
@@ -38,10 +39,16 @@ module _ (c : tie.In-loop Inv-loop μ-loop) where
   ready : Ready (start .args .task) (now (start .args .theta)) (now (start .args .target)) (c .before .loop .coeffs) (c .before .loop .ws)
   ready = still (start .pre .0) (c .before .loop .inv .2) (c .before .loop .inv .3)
 
+  few : c .before .loop .refits ≤ 1000
+  few = omega (arith, in-limit, start .pre .0 .sized .limited .few-rounds)
+
 -- after its round
 module _ (c : tie.After-round Inv-loop μ-loop) where
+  abbrev watching : tie.After-watched Inv-loop μ-loop
+  watching = c .before .before .before
+
   abbrev turn : tie.In-loop Inv-loop μ-loop
-  turn = c .before .before .before
+  turn = watching .before .before
 
   abbrev P : Problem
   P = problem-of (start turn .args .task) (now (start turn .args .theta)) (now (start turn .args .target))
@@ -54,6 +61,19 @@ module _ (c : tie.After-round Inv-loop μ-loop) where
 
   same-space : length (c .round .last .1 .1 .1 .1 .1 .0) ≡ length (now (start turn .args .ws))
   same-space = c .round .kept .1 .1 .1 .1 .1 .0 ∙ turn .before .loop .inv .3
+
+  abbrev term-idx : ℕ
+  term-idx = start turn .args .term-idx .0
+
+  abbrev so-far : Going P (turn .before .loop .refits) term-idx (turn .before .loop .drop) (turn .before .loop .coeffs) (turn .before .loop .last .0)
+  so-far = turn .before .loop .inv .4
+
+  -- its look at the term that is watched
+  seen : watching .watched .result ≡ or-else (turn .before .loop .drop) (drops P term-idx (going (turn .before .loop .coeffs) (so-far .past)))
+  seen =
+      let a = start turn .args in
+      let long = turn .before .loop .inv .2 ∙ start turn .pre .0 .coeffs-long in
+      watching .watched .ensures ∙ ap (or-else _) (look-drops (a .task) (now (a .theta)) (now (a .target)) _ long term-idx _ (so-far .past) (so-far .count-is))
 
   -- what it came to
   came : (t : Turn) → c .round .result ≡ t → Turned P (turn .before .loop .last .0) (turn .before .loop .coeffs) t new-coeffs
@@ -79,13 +99,18 @@ empty-requires : tie.Need-empty-requires Inv-loop μ-loop
 empty-requires c κs = search needs
 
 loop-holds : tie.Need-loop-holds Inv-loop μ-loop
-unfolding rounds
+unfolding rounds dropped
 loop-holds c =
     let begin = c .before .before .before .before .before .before in
-    (refl, omega arith, refl, refl, record { past = []; state = begin .pre .2; last-is = c .empty .ensures; count-is = refl }, begin .pre .1)
+    (refl, omega arith, refl, refl, record { past = []; state = begin .pre .2; last-is = c .empty .ensures; count-is = refl; drop-is = refl }, begin .pre .1)
+
+watched-requires : tie.Need-watched-requires Inv-loop μ-loop
+watched-requires c κs = few (c .before)
 
 round-requires : tie.Need-round-requires Inv-loop μ-loop
-round-requires c κs = (ready (c .before .before), c .before .before .before .loop .inv .5)
+round-requires c κs =
+    let t = c .before .before .before .before in
+    (ready t, t .before .loop .inv .5)
 
 enum-known-support : tie.Need-enum-known-support Inv-loop μ-loop
 enum-known-support c = search needs
@@ -102,7 +127,7 @@ same-length-2 c = same-space (c .before .before .before .before .before .before)
 returns : tie.Need-returns Inv-loop μ-loop
 returns c =
     let r = c .before .before .before .before .before .before in
-    ends-empty (P r) (turn r .before .loop .inv .4) (in-limit (turn r)) (came r _ (c .enum-told .given .1))
+    ends-empty (P r) (term-idx r) (so-far r) (seen r) (in-limit (turn r)) (came r _ (c .enum-told .given .1))
 
 enum-told-2 : tie.Need-enum-told-2 Inv-loop μ-loop
 enum-told-2 c = search needs
@@ -116,15 +141,14 @@ same-length-4 c = same-space (c .before .before .before .before .before .before)
 returns-2 : tie.Need-returns-2 Inv-loop μ-loop
 returns-2 c =
     let r = c .before .before .before .before .before .before in
-    ends-settled (P r) (turn r .before .loop .inv .4) (in-limit (turn r)) (came r _ (c .enum-told2 .given .1))
+    ends-settled (P r) (term-idx r) (so-far r) (seen r) (in-limit (turn r)) (came r _ (c .enum-told2 .given .1))
 
 enum-known-term : tie.Need-enum-known-term Inv-loop μ-loop
 enum-known-term c = search needs
 
 add-counted : tie.Need-add-counted Inv-loop μ-loop
 add-counted c =
-    let t = turn (c .before .before .before .before .before .before .before) in
-    omega (arith, in-limit t, start t .pre .0 .sized .limited .few-rounds)
+    omega (arith, few (turn (c .before .before .before .before .before .before .before)))
 
 same-length-5 : tie.Need-same-length-5 Inv-loop μ-loop
 same-length-5 c = same-coeffs (c .before .before .before .before .before .before .before)
@@ -135,7 +159,7 @@ same-length-6 c = same-space (c .before .before .before .before .before .before 
 returns-3 : tie.Need-returns-3 Inv-loop μ-loop
 returns-3 c =
     let r = c .before .before .before .before .before .before .before in
-    ends-refused (P r) (turn r .before .loop .inv .4) (in-limit (turn r)) _ (came r _ (c .before .term .given .1))
+    ends-refused (P r) (term-idx r) (so-far r) (seen r) (in-limit (turn r)) _ (came r _ (c .before .term .given .1))
 
 add-refits : tie.Need-add-refits Inv-loop μ-loop
 add-refits c = search needs
@@ -149,7 +173,7 @@ loop-again : tie.Need-loop-again Inv-loop μ-loop
 loop-again c =
     let r = c .before .before .before .before .before .before .before in
     let inv = turn r .before .loop .inv in
-    (inv .0, omega (arith, in-limit (turn r)), same-coeffs r, same-space r, goes-on (P r) (inv .4) _ (came r _ (c .before .support .given .1)), r .round .ensures .1)
+    (inv .0, omega (arith, in-limit (turn r)), same-coeffs r, same-space r, goes-on (P r) (term-idx r) (so-far r) (seen r) _ (came r _ (c .before .support .given .1)), r .round .ensures .1)
 
 support-of-requires : tie.Need-support-of-requires Inv-loop μ-loop
 support-of-requires c κs = omega (arith, coeffs-long (c .before), begin (c .before) .pre .0 .sized .limited .few-cols)
@@ -169,12 +193,12 @@ returns-4 c =
     let over = looked .before .before in
     let a = begin over .args in
     let found = support-found (a .task) (now (a .theta)) (now (a .target)) _ (coeffs-long over) _ (looked .support-of .ensures) in
-    rw (c .last-look .ensures, found) (used-up _ (over .before .loop .inv .4) (none-more over .0) (none-more over .1))
+    rw (c .last-look .ensures, found) (used-up _ _ (over .before .loop .inv .4) (none-more over .0) (none-more over .1))
 
 pub rounds-spec : {M : Type 1} → statement M
 rounds-spec =
     tie.close
     (tie.spec
-    Inv-loop μ-loop empty-requires loop-holds round-requires enum-known-support enum-told same-length same-length-2 returns enum-told-2 same-length-3
+    Inv-loop μ-loop empty-requires loop-holds watched-requires round-requires enum-known-support enum-told same-length same-length-2 returns enum-told-2 same-length-3
     same-length-4 returns-2 enum-known-term add-counted same-length-5 same-length-6 returns-3 add-refits loop-less loop-again support-of-requires last-look-requires same-length-7
     same-length-8 returns-4)

@@ -29,13 +29,13 @@ same-length-2 c = search needs
 
 returns : tie.Need-returns
 returns c =
-    let at-ready = c .before .before .before .before in
+    let at-ready = c .before .before .before .before .before in
     let told = at-ready .before .before .before in
     let at-sizes = told .before .before in
     let a = at-sizes .before .before .before .before .before .args in
     let made = at-ready .fit-ready in
-    fit-accepted (a .task) (now (a .theta)) (now (a .target)) (at-sizes .fit-sizes .result) (now (a .coeffs)) _ (now (a .workspace)) _ (made .result)
-    (at-sizes .fit-sizes .ensures) (told .enum-told .given .1) (made .ensures .0) (made .ensures .1)
+    fit-accepted (a .task) (now (a .theta)) (now (a .target)) (at-sizes .fit-sizes .result) (now (a .coeffs)) _ (now (a .workspace)) _ (made .result .report)
+    (at-sizes .fit-sizes .ensures) (told .enum-told .given .1) (made .ensures .0) (made .ensures .2)
 
 returns-2 : tie.Need-returns-2
 returns-2 c =

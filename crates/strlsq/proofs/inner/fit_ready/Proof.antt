@@ -1,4 +1,4 @@
--- `fit_ready` meets its contract: the report, and the needed part of the workspace cleared.
+-- `fit_ready` meets its contract: the report, what was seen of the term, and the needed part of the workspace cleared.
 use mathlib.Core.Path.{_≡_, _∙_}
 use Prim.Native.Nat.{_-_, _≤_}
 use native.Mathlib.Omega.{arith}
@@ -45,8 +45,9 @@ returns c =
     let need = at-needed .needed .result in
     let made = at-fit-in .fit-in in
     let room : need ≤ length space = rw (at-needed .needed .ensures) (start .pre .space-long) in
-    let long : length (made .last .1 .1 .1 .1 .0) ≡ need - 0 = made .kept .1 .1 .1 .1 .0 ∙ length-take-le (need - 0) space (omega (arith, room)) in
-    (made .ensures, rw (← at-needed .needed .ensures) (at-clear .clear .ensures ∙ cleared-with 0 need need (made .last .1 .1 .1 .1 .0) space (omega arith) (omega arith) room long))
+    let used = made .last .1 .1 .1 .1 .1 .0 in
+    let long : length used ≡ need - 0 = made .kept .1 .1 .1 .1 .1 .0 ∙ length-take-le (need - 0) space (omega (arith, room)) in
+    (made .ensures .0, made .ensures .1, rw (← at-needed .needed .ensures) (at-clear .clear .ensures ∙ cleared-with 0 need need used space (omega arith) (omega arith) room long))
 
 pub fit-ready-spec : {M : Type 1} → statement M
 fit-ready-spec =

@@ -1,22 +1,16 @@
--- A fit within the program's limits is ready, and what is written of it is its lines. Assumes nothing.
+-- A fit within the programs' limits is ready in the largest workspace. Assumes nothing.
 use mathlib.Core.Path.{_≡_}
-use mathlib.Core.List.{List, _++_}
+use mathlib.Core.List.{List}
 use Prim.Native.Nat.{ℕ, _+_, _≤_}
 use native.Mathlib.Nat.{mul-le-mul}
 use native.Mathlib.Omega.{arith}
 use lib.ListN.{length}
 use lib.Ieee.{Float}
-use Rattle.hex.specs.Put.{Written}
-use Rattle.rule.specs.Rule.{Fit}
 use Rattle.rule.specs.Sizes.{fit-need, Limited, Sized, Ready}
 use Rattle.rule.specs.declared.Solver.{Solver}
 use Rattle.rule.specs.declared.Solver.the-variants.{Normal, Qr, Marquardt}
 use Rattle.rule.specs.declared.Task.{Task}
-use Rattle.rule.specs.declared.Report.{Report}
-use Rattle.strlsq.specs.Reports.{Reports}
-use Rattle.writer.specs.Answer.{report-line, coefficient-lines}
-use Rattle.frames.specs.Limits.{most-cols, most-rows, most-space}
-use Rattle.frames.specs.Exchange.{fit-lines}
+use Rattle.exchange.specs.Limits.{most-cols, most-rows, most-space}
 
 -- the largest workspace is that of the most rows and columns by QR
 need-most : (solver : Solver) (rows cols : ℕ) → rows ≤ most-rows → cols ≤ most-cols → fit-need solver rows cols ≤ most-space
@@ -29,8 +23,3 @@ pub ready-within : {task : Task} {theta target cs ws : List Float} → Limited m
     → Sized task theta target → length cs ≡ task .cols → length ws ≡ most-space → Ready task theta target cs ws
 ready-within {task} l sized long room =
     record { sized = sized; coeffs-long = long; space-long = omega (arith, room, need-most (task .solver) (task .rows) (task .cols) (l .few-rows) (l .few-cols)) }
-
-pub fit-written : {f : Fit} {report : Report} {cs : List Float} {was out : List ℕ} {n : ℕ} → Reports f report cs
-    → Written 0 (report-line report ++ coefficient-lines cs) was out n → Written 0 (fit-lines f) was out n
-unfolding fit-lines
-fit-written p w = rw (p .report, p .coeffs) at w

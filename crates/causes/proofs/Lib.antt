@@ -1,0 +1,2 @@
+-- Laws of the lines of the causes. Assumes nothing.
+pub mod Telling

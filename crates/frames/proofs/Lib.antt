@@ -1,4 +1,0 @@
--- Laws of the exchange. Assumes nothing.
-pub mod FitLaws
-pub mod Accepted
-pub mod ExchangeLaws

@@ -1,0 +1,17 @@
+// The program that says why: reads an input of the bench program, and writes a line for each term to standard output.
+use causes::ANSWER;
+use exchange::inner::INPUT;
+use input::inner::Input;
+use input::inner::read_input;
+use libc::STDOUT_FILENO;
+
+// A read that fails ends the program with nothing written; so does a closed output.
+fn main() {
+    let mut room = [0u8; INPUT];
+    let Input::Whole(n) = read_input(&mut room) else {
+        return;
+    };
+    let mut answer = [0u8; ANSWER];
+    let k = causes::respond_why(&room[..n], &mut answer);
+    io::write_all(STDOUT_FILENO, &answer[..k]);
+}

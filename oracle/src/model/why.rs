@@ -1,0 +1,32 @@
+//! `why`.
+
+use super::fits::{fitted, limits_of_a_fit};
+use super::refuse_if;
+use crate::cause::Cause;
+use crate::problem::{Setup, Solver};
+use crate::refusal::Refusal;
+use crate::why::above_zero;
+
+/// A fit by the solver of this code, and the cause of one of its terms. An unknown code comes first, 12 directly after
+/// 3, 13 after that.
+#[allow(clippy::too_many_arguments)]
+pub fn why(
+    code: u64,
+    theta: &[f64],
+    n_rows: usize,
+    n_cols: usize,
+    target: &[f64],
+    setup: Setup,
+    term: usize,
+    coeffs: &mut [f64],
+    workspace: &mut [f64],
+) -> Result<Cause, Refusal> {
+    let solver = Solver::of_code(code).ok_or(Refusal::MalformedFrame)?;
+    limits_of_a_fit(n_rows, n_cols, setup)?;
+    above_zero(setup)?;
+    refuse_if(term >= n_cols, Refusal::Term)?;
+    let fit = fitted(
+        solver, theta, n_rows, n_cols, target, setup, coeffs, workspace,
+    )?;
+    Ok(fit.causes[term])
+}
