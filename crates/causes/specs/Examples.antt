@@ -3,6 +3,7 @@ use mathlib.Core.Path.{_≡_, refl}
 use lib.Ieee.{ofBits, lt}
 use Rattle.rule.specs.Dropped as D
 use Rattle.exchange.specs.Text.{text, exchanging}
+use Rattle.why.specs.Sizes as S
 use Rattle.why.specs.Cause as C
 use Rattle.causes.specs.Lines as L
 use Rattle.causes.specs.Exchange as X
@@ -10,7 +11,7 @@ use Rattle.causes.specs.Exchange.{causes-of}
 
 -- all that the lines of causes compute with
 unfoldable pub telling : Unit {0}
-unfolding exchanging ofBits lt D.drops D.or-else D.dropped C.by-value C.undropped C.caused C.cause L.cause-line L.cause-lines
+unfolding exchanging ofBits lt S.low-threshold D.drops D.or-else D.dropped C.by-value C.undropped C.caused C.cause L.cause-line L.cause-lines
     X.why-before X.why-checked X.causes-of
 telling = tt
 

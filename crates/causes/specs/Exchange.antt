@@ -1,24 +1,20 @@
 -- The exchange of the program that says why: the bytes of an input in, a line for each term out. Assumes nothing.
 use Prim.Native.Nat.{ℕ}
-use mathlib.Core.Bool.{not}
 use mathlib.Core.List.{List}
-use lib.Ieee.{lt}
-use Rattle.steps.specs.Num.{+zero}
-use Rattle.refusal.specs.Answers.{refuse-if, and-then}
+use Rattle.refusal.specs.Answers.{and-then}
 use Rattle.refusal.specs.declared.Answer.{Answer}
-use Rattle.refusal.specs.declared.Answer.the-variants.{Done}
-use Rattle.refusal.specs.declared.Refusal.the-variants.{LowThreshold}
 use Rattle.rule.specs.Sizes.{limits}
 use Rattle.rule.specs.declared.Task.{Task}
 use Rattle.exchange.specs.Limits.{most-cols, most-rows}
 use Rattle.exchange.specs.Exchange.{then-rows, theta-asked, target-asked, answer-by}
+use Rattle.why.specs.Sizes.{low-threshold}
 use Rattle.why.specs.Cause.{cause-of}
 use Rattle.why.specs.declared.Cause.{Cause}
 use Rattle.causes.specs.Lines.{cause-lines}
 
 -- before the rows are looked at: 1, 2, 3 by the program's own limits, then 12, a threshold that is not above zero
 unfoldable pub why-before : Task → Answer
-why-before task = and-then (limits most-cols most-rows task) (refuse-if (not (lt +zero (task .setup .threshold))) LowThreshold Done)
+why-before task = and-then (limits most-cols most-rows task) (low-threshold (task .setup))
 
 -- after a good header: these, then malformed rows or tail
 unfoldable pub why-checked : List ℕ → Task → Answer

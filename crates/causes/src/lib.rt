@@ -15,14 +15,14 @@ use refusal::Answer;
 use refusal::Refusal;
 use rule::Task;
 use rule::inner::limits;
-use why::inner::above_zero;
+use why::inner::low_threshold;
 use writer::inner::write_refusal;
 
 // The longest answer: a line for each column.
 pub const ANSWER: usize = COLS * CAUSE_BYTES;
 
 // The limits, then a threshold that is not above zero.
-fn before_rows(task: Task) -> Answer
+fn why_before(task: Task) -> Answer
     ensures { λ r. ⌜ r ≡ why-before task ⌝ }
 {
     let setup = task.setup;
@@ -30,17 +30,14 @@ fn before_rows(task: Task) -> Answer
     let Answer::Done = limited else {
         return limited;
     };
-    if !above_zero(setup) {
-        return Answer::Refused(Refusal::LowThreshold);
-    }
-    Answer::Done
+    low_threshold(setup)
 }
 
 // The first refusal that applies after a good header.
 fn check(s: &[u8], task: Task) -> Answer
     ensures { λ r. ⌜ r ≡ why-checked (now (s .entry)) task ⌝ }
 {
-    let asked = before_rows(task);
+    let asked = why_before(task);
     then_rows(asked, s, task)
 }
 

@@ -15,17 +15,28 @@ use Rattle.refusal.specs.declared.Answer.{Answer}
 use Rattle.refusal.specs.declared.Answer.the-variants.{Done}
 use Rattle.refusal.specs.declared.Refusal.the-variants.{LowThreshold, NoSuchTerm}
 use Rattle.rule.specs.Sizes.{limits, lengths, fit-sizes, Ready, ready}
+use Rattle.rule.specs.declared.Setup.{Setup}
 use Rattle.rule.specs.declared.Task.{Task}
 
--- 12: a threshold that is not above zero; 13: a term number that is not below n_cols
+-- 12: a threshold that is not above zero
+unfoldable pub low-threshold : Setup → Answer
+low-threshold setup = refuse-if (not (lt +zero (setup .threshold))) LowThreshold Done
+
+-- then 13: a term number that is not below n_cols
 unfoldable pub asks : Task → ℕ → Answer
-asks task j = refuse-if (not (lt +zero (task .setup .threshold))) LowThreshold (refuse-if (not (ltb j (task .cols))) NoSuchTerm Done)
+asks task j = and-then (low-threshold (task .setup)) (refuse-if (not (ltb j (task .cols))) NoSuchTerm Done)
 
 -- 12 and 13 stand behind 3: the fit's limits, what is asked, the fit's lengths
 unfoldable pub why-sizes : Task → ℕ → ℕ → ℕ → ℕ → ℕ → Answer
 why-sizes task j theta target coeffs space = and-then (limits 64 4096 task) (and-then (asks task j) (lengths task theta target coeffs space))
 
 -- ---- what holds where nothing is refused
+
+pub above-zero : (setup : Setup) → low-threshold setup ≡ Done → T (lt +zero (setup .threshold))
+unfolding low-threshold
+above-zero setup e =
+    let above = lt +zero (setup .threshold) in
+    passed (not-false above (not-refused (not above) LowThreshold Done e .0))
 
 module _ (task : Task) (j theta target coeffs space : ℕ) (e : why-sizes task j theta target coeffs space ≡ Done) where
   limited : limits 64 4096 task ≡ Done
@@ -40,10 +51,9 @@ module _ (task : Task) (j theta target coeffs space : ℕ) (e : why-sizes task j
   pub why-asked : T (lt +zero (task .setup .threshold)) × (j < task .cols)
   unfolding asks
   why-asked =
-      let above = lt +zero (task .setup .threshold) in
-      let low = not-refused (not above) LowThreshold _ (rest .0) in
-      let there = not-refused (not (ltb j (task .cols))) NoSuchTerm Done (low .1) in
-      (passed (not-false above (low .0)), ltb-true j (task .cols) (not-false _ (there .0)))
+      let both = both-done (low-threshold (task .setup)) _ (rest .0) in
+      let there = not-refused (not (ltb j (task .cols))) NoSuchTerm Done (both .1) in
+      (above-zero (task .setup) (both .0), ltb-true j (task .cols) (not-false _ (there .0)))
 
 -- no fit refuses it
 pub why-ready : (task : Task) (j : ℕ) {theta target coeffs space : List Float}

@@ -1,10 +1,8 @@
 // The refusals of the question why, and the cause of the term that a fit watched.
 ghost use mathlib.Core.Path.{_≡_};
-ghost use lib.Ieee.{lt};
-ghost use Rattle.steps.specs.Num.{+zero};
 ghost use Rattle.rule.specs.Fits.{keeps};
 ghost use Rattle.why.specs.Cause.{by-value, undropped, caused};
-ghost use Rattle.why.specs.Sizes.{asks, why-sizes};
+ghost use Rattle.why.specs.Sizes.{low-threshold, asks, why-sizes};
 use crate::Cause;
 use coeffs::inner::kept;
 use refusal::Answer;
@@ -18,27 +16,29 @@ use rule::inner::limits;
 use strlsq::inner::Watched;
 use support::Term;
 
-// Whether the threshold is above zero; a NaN is not.
-pub fn above_zero(setup: Setup) -> bool
-    ensures { λ r. ⌜ r ≡ lt +zero (setup .threshold) ⌝ }
+// 12: the threshold is not above zero, and a NaN is not.
+pub fn low_threshold(setup: Setup) -> Answer
+    ensures { λ r. ⌜ r ≡ low-threshold setup ⌝ }
 {
-    setup.threshold > 0.0
+    if setup.threshold > 0.0 {
+        return Answer::Done;
+    }
+    Answer::Refused(Refusal::LowThreshold)
 }
 
-// 12 and 13.
+// 12, then 13.
 fn asks(task: Task, term_idx: Term) -> Answer
     ensures { λ r. ⌜ r ≡ asks task («term_idx» .0) ⌝ }
 {
     let setup = task.setup;
-    let above = above_zero(setup);
-    let there = term_idx.0 < task.cols;
-    if !above {
-        return Answer::Refused(Refusal::LowThreshold);
+    let low = low_threshold(setup);
+    let Answer::Done = low else {
+        return low;
+    };
+    if term_idx.0 < task.cols {
+        return Answer::Done;
     }
-    if !there {
-        return Answer::Refused(Refusal::NoSuchTerm);
-    }
-    Answer::Done
+    Answer::Refused(Refusal::NoSuchTerm)
 }
 
 // The limits, then 12 and 13, then the lengths.
