@@ -1,6 +1,6 @@
 // How often the memory of theta is brought in, where only a few of its pages are at hand at once: as from slow memory. Linux.
 //   cc -O1 -Iinclude -o target/paging bench/paging.c target/staticlib/libcapi.a && target/paging
-// A page that is not at hand can't be read; reading it brings it in and sends the oldest away. The exit status is 1 if a call that walks theta once brings any page in twice.
+// A page that is not at hand can't be read; reading it brings it in and sends the oldest away. The exit status is 1 unless jtj and jtr bring each page in once, and a fit twice: for its sums, and for its error.
 #define _GNU_SOURCE
 #include "dapmotar.h"
 
@@ -43,6 +43,7 @@ int main(void) {
     size_t need = dapmotar_strlsq_workspace(ROWS, COLS);
     double *space = malloc(need * sizeof(double));
     uint64_t report[4];
+    double error[1];
     for (size_t i = 0; i < ROWS * COLS; i++) ((double *)theta)[i] = (rand() % 2000 - 1000) / 500.0;
     for (size_t i = 0; i < ROWS; i++) target[i] = 2 * matrix[i * COLS] + matrix[i * COLS + 5];
     struct sigaction action = {.sa_sigaction = bring, .sa_flags = SA_SIGINFO};
@@ -57,11 +58,11 @@ int main(void) {
     if (dapmotar_jtr(matrix, ROWS * COLS, target, ROWS, ROWS, COLS, values, COLS)) return 2;
     size_t jtr = brought;
     send_all_away(bytes);
-    if (dapmotar_strlsq(matrix, ROWS * COLS, ROWS, COLS, target, ROWS, 0.25, 1e-6, 10, values, COLS, space, need, report)) return 2;
+    if (dapmotar_strlsq(matrix, ROWS * COLS, ROWS, COLS, target, ROWS, 0.25, 1e-6, 10, values, COLS, space, need, report, error)) return 2;
     size_t strlsq = brought, refits = report[1];
     send_all_away(bytes);
-    if (dapmotar_strlsq_marquardt(matrix, ROWS * COLS, ROWS, COLS, target, ROWS, 0.25, 1e-6, 10, values, COLS, space, need, report)) return 2;
+    if (dapmotar_strlsq_marquardt(matrix, ROWS * COLS, ROWS, COLS, target, ROWS, 0.25, 1e-6, 10, values, COLS, space, need, report, error)) return 2;
     printf("theta of %d by %d stands in %zu pages, %d at hand at once\n", ROWS, COLS, pages, AT_HAND);
     printf("jtj brings in %zu, jtr %zu, strlsq with %zu refits %zu, strlsq_marquardt with %zu refits %zu\n", jtj, jtr, refits, strlsq, (size_t)report[1], brought);
-    return jtj != pages || jtr != pages || strlsq != pages || brought != pages;
+    return jtj != pages || jtr != pages || strlsq != 2 * pages || brought != 2 * pages;
 }

@@ -16,7 +16,7 @@ static double *theta, *target, *square, *values, *space;
 
 static void *call(void *unused) {
     uint64_t report[4], column[1], cause[2];
-    double value[1];
+    double value[1], error[1];
     switch (which) {
     case 1: dapmotar_jtj(theta, ROWS * COLS, ROWS, COLS, 1e-6, square, COLS * COLS); break;
     case 2: dapmotar_jtr(theta, ROWS * COLS, target, ROWS, ROWS, COLS, values, COLS); break;
@@ -25,12 +25,12 @@ static void *call(void *unused) {
     case 5: dapmotar_solve_normal_equations(square, COLS * COLS, values, COLS, COLS, space, COLS * COLS, column); break;
     case 6: dapmotar_qr(theta, ROWS * COLS, ROWS, COLS, space, ROWS * COLS, values, COLS, space + ROWS * COLS, ROWS); break;
     case 7: dapmotar_solve_least_squares(theta, ROWS * COLS, target, ROWS, ROWS, COLS, values, COLS, space, ROWS * COLS + 2 * ROWS + 2 * COLS, column); break;
-    case 8: dapmotar_strlsq(theta, ROWS * COLS, ROWS, COLS, target, ROWS, 0.25, 1e-6, 10, values, COLS, space, dapmotar_strlsq_workspace(ROWS, COLS), report); break;
-    case 9: dapmotar_strlsq_qr(theta, ROWS * COLS, ROWS, COLS, target, ROWS, 0.25, 1e-6, 10, values, COLS, space, dapmotar_strlsq_qr_workspace(ROWS, COLS), report); break;
+    case 8: dapmotar_strlsq(theta, ROWS * COLS, ROWS, COLS, target, ROWS, 0.25, 1e-6, 10, values, COLS, space, dapmotar_strlsq_workspace(ROWS, COLS), report, error); break;
+    case 9: dapmotar_strlsq_qr(theta, ROWS * COLS, ROWS, COLS, target, ROWS, 0.25, 1e-6, 10, values, COLS, space, dapmotar_strlsq_qr_workspace(ROWS, COLS), report, error); break;
     case 10: dapmotar_respond(input, input_len, answer); break;
     case 11: dapmotar_sqrt(2.0); break;
     case 12: dapmotar_invert_spd(square, COLS * COLS, COLS, space, COLS * COLS, space + COLS * COLS, COLS * COLS + COLS, column); break;
-    case 13: dapmotar_strlsq_marquardt(theta, ROWS * COLS, ROWS, COLS, target, ROWS, 0.25, 1e-6, 10, values, COLS, space, dapmotar_strlsq_marquardt_workspace(ROWS, COLS), report); break;
+    case 13: dapmotar_strlsq_marquardt(theta, ROWS * COLS, ROWS, COLS, target, ROWS, 0.25, 1e-6, 10, values, COLS, space, dapmotar_strlsq_marquardt_workspace(ROWS, COLS), report, error); break;
     case 14: dapmotar_why(2, theta, ROWS * COLS, ROWS, COLS, target, ROWS, 0.25, 1e-6, 10, 1, values, COLS, space, dapmotar_strlsq_qr_workspace(ROWS, COLS), cause, value); break;
     case 15: dapmotar_respond_why(input, input_len, causes); break;
     }

@@ -5,7 +5,7 @@
  * docs/REFERENCE.md is the reference of what each call does.
  *
  * Slices.      A slice is a pointer and its length in numbers. A null pointer with length 0 is an empty slice.
- * Arrays       of a fixed length, report[4], column[1], cause[2], value[1], answer[..], are never null.
+ * Arrays       of a fixed length, report[4], error[1], column[1], cause[2], value[1], answer[..], are never null.
  * Overlap.     What is written, slice or array, must not overlap anything else that is read or written.
  * Matrices     stand by rows: entry (i, j) of a matrix of n columns is number i*n + j.
  * Numbers      may have any bits: infinities, NaN, zeros of both signs. Each operation rounds once.
@@ -40,8 +40,8 @@ enum {
 };
 
 /*
- * Refusals, in the order in which they are looked for. All but 8 and 9 leave every slice, the report, the column, the
- * cause and its value unchanged; what 8 and 9 leave is said at the calls that give them.
+ * Refusals, in the order in which they are looked for. All but 8 and 9 leave every slice, the report and its error, the
+ * column, the cause and its value unchanged; what 8 and 9 leave is said at the calls that give them.
  */
 enum {
     DAPMOTAR_ACCEPTED = 0,
@@ -152,23 +152,29 @@ uint64_t dapmotar_solve_least_squares(const double *a, size_t a_len, const doubl
 /*
  * The fit by normal equations. theta has n_rows * n_cols numbers, a column a term; target has n_rows; coeffs has
  * n_cols. Terms whose coefficient's magnitude is below the threshold are dropped and the others fitted again, for at
- * most max_iter rounds. theta is walked once, by rows, however many rounds there are.
+ * most max_iter rounds. theta is walked once, by rows, however many rounds there are, and its kept columns once more
+ * for the error.
  * report: the stop; how many refits were tried; the kept word, whose bit j is one exactly if term j's final
  * magnitude is at least the threshold; the term at which a solve refused, a column of theta also after a refit, or
- * DAPMOTAR_NO_TERM. It is written only if the call is accepted.
+ * DAPMOTAR_NO_TERM.
+ * error: the squared error that the kept terms leave, whatever the stop: for each row the products of the kept word's
+ * terms, rising, summed from +0.0; the target less that sum; its square, summed over the rows from +0.0. So it is the
+ * target's squares where nothing is kept, and +0.0 without rows. What a column that is not kept holds doesn't show in
+ * it; a kept zero times an infinite reading makes it NaN.
+ * Both are written only if the call is accepted.
  * Workspace: dapmotar_strlsq_workspace(n_rows, n_cols) numbers.
  * Refusals: 1, 2, 3, 4, 5, 6, 7.
  */
 uint64_t dapmotar_strlsq(const double *theta, size_t theta_len, size_t n_rows, size_t n_cols,
                          const double *target, size_t target_len, double threshold, double lambda,
                          size_t max_iter, double *coeffs, size_t coeffs_len, double *workspace,
-                         size_t workspace_len, uint64_t report[4]);
+                         size_t workspace_len, uint64_t report[4], double error[1]);
 
 /* The fit by QR: the same, with dapmotar_strlsq_qr_workspace(n_rows, n_cols) numbers of workspace. */
 uint64_t dapmotar_strlsq_qr(const double *theta, size_t theta_len, size_t n_rows, size_t n_cols,
                             const double *target, size_t target_len, double threshold, double lambda,
                             size_t max_iter, double *coeffs, size_t coeffs_len, double *workspace,
-                            size_t workspace_len, uint64_t report[4]);
+                            size_t workspace_len, uint64_t report[4], double error[1]);
 
 /*
  * The fit by normal equations that are damped in proportion, as dapmotar_jtj_marquardt damps, in the first solve and
@@ -177,7 +183,7 @@ uint64_t dapmotar_strlsq_qr(const double *theta, size_t theta_len, size_t n_rows
 uint64_t dapmotar_strlsq_marquardt(const double *theta, size_t theta_len, size_t n_rows, size_t n_cols,
                                    const double *target, size_t target_len, double threshold, double lambda,
                                    size_t max_iter, double *coeffs, size_t coeffs_len, double *workspace,
-                                   size_t workspace_len, uint64_t report[4]);
+                                   size_t workspace_len, uint64_t report[4], double error[1]);
 
 /*
  * The numbers of workspace that a fit needs, with r rows and c columns: 3*c*c + 2*c for the normal equations (at any r),
@@ -221,7 +227,7 @@ uint64_t dapmotar_why(uint64_t code, const double *theta, size_t theta_len, size
                       uint64_t cause[2], double value[1]);
 
 /* The room for an answer of dapmotar_respond: a report's line, and a line for each of 16 coefficients. */
-enum { DAPMOTAR_ANSWER = 297 };
+enum { DAPMOTAR_ANSWER = 313 };
 
 /*
  * The bench program's exchange: writes the answer to the frames in input to the head of answer, leaves the bytes behind

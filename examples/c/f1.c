@@ -7,7 +7,7 @@
  *
  * It prints
  *
- *     stop 4, refits 1, kept 1
+ *     stop 4, refits 1, kept 1, error 0.0625
  *     port 0: 3
  *     port 1: 0
  */
@@ -22,7 +22,7 @@ int main(void)
     const double theta[] = {1.0, 0.0, 0.0, 1.0};
     const double target[] = {3.0, 0.25};
     const double threshold = 0.5, lambda = 0.0;
-    double coeffs[2];
+    double coeffs[2], error[1];
     uint64_t report[4];
 
     size_t needed = dapmotar_strlsq_workspace(2, 2);
@@ -31,7 +31,7 @@ int main(void)
         return EXIT_FAILURE;
 
     uint64_t refusal = dapmotar_strlsq(theta, 4, 2, 2, target, 2, threshold, lambda, 10, coeffs, 2, workspace,
-                                       needed, report);
+                                       needed, report, error);
     free(workspace);
     if (refusal != DAPMOTAR_ACCEPTED) {
         fprintf(stderr, "refusal %llu\n", (unsigned long long)refusal);
@@ -41,8 +41,8 @@ int main(void)
         puts("the fit did not settle");
     if (report[3] != DAPMOTAR_NO_TERM)
         printf("port %llu spoilt the solve\n", (unsigned long long)report[3]);
-    printf("stop %llu, refits %llu, kept %llx\n", (unsigned long long)report[0], (unsigned long long)report[1],
-           (unsigned long long)report[2]);
+    printf("stop %llu, refits %llu, kept %llx, error %g\n", (unsigned long long)report[0],
+           (unsigned long long)report[1], (unsigned long long)report[2], error[0]);
     for (int port = 0; port < 2; port++)
         printf("port %d: %g\n", port, coeffs[port]);
     return EXIT_SUCCESS;

@@ -4,7 +4,7 @@ use crate::fit::Stop;
 use crate::frames::{answered, write};
 use crate::problem::{Problem, Setup, Solver};
 use crate::rng::Rng;
-use crate::table::{f1, g8};
+use crate::table::{f1, g8, no_columns};
 use crate::why;
 use std::io;
 use std::path::Path;
@@ -42,7 +42,9 @@ pub fn all() -> Vec<Example> {
         example("dead-port", dead_port(), Stop::Settled),
         example("nan-reading", nan_reading(10), Stop::Empty),
         example("nan-left", nan_reading(0), Stop::OutOfRounds),
+        example("infinite-reading", infinite_reading(), Stop::Empty),
         example("no-rows", no_rows(), Stop::NoData),
+        example("no-ports", no_columns(), Stop::NoData),
         example("no-threshold", f1(0.0, 10), Stop::Settled),
     ]
 }
@@ -154,6 +156,14 @@ fn nan_reading(max_iter: usize) -> Problem {
     let mut p = readings(Solver::Normal, 8, &[1.0, 0.5, -1.5], 0.01, setup(0.1, 0.0));
     p.set(5, 1, f64::NAN);
     p.setup.max_iter = max_iter;
+    p
+}
+
+/// One reading is infinite, and nothing is too small to be kept.
+fn infinite_reading() -> Problem {
+    let mut p = nan_reading(10);
+    p.set(5, 1, f64::INFINITY);
+    p.setup.threshold = 0.0;
     p
 }
 

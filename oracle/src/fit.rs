@@ -1,4 +1,5 @@
-//! The three fits restated over one loop, so that stop, refits, kept word, refused term and each term's cause can be told.
+//! The three fits restated over one loop, so that stop, refits, kept word, refused term, error and each term's cause
+//! can be told.
 //!
 //! The published functions give the coefficients only. `fit` runs them too and stops the program if a single
 //! bit differs, so a report stands only beside coefficients that are the published ones. The third fit is not
@@ -7,6 +8,7 @@
 use crate::bits::first_difference;
 use crate::cause::{Cause, Watch};
 use crate::columns;
+use crate::leftover::squared_error;
 use crate::linalg;
 use crate::problem::{Problem, Setup, Solver};
 use crate::symreg::{strlsq, strlsq_marquardt};
@@ -38,13 +40,15 @@ impl Stop {
     }
 }
 
-#[derive(Clone, Copy, Debug, PartialEq, Eq)]
+#[derive(Clone, Copy, Debug)]
 pub struct Report {
     pub stop: Stop,
     pub refits: u64,
     pub kept: u64,
     /// The term at which a solve refused, or NO_TERM.
     pub term: u64,
+    /// What the kept terms leave of the target, squared.
+    pub error: f64,
 }
 
 /// Where no solve refused.
@@ -118,12 +122,14 @@ fn restated(p: &Problem) -> Fit {
         }
     }
     let kept = support_of(&coeffs, p.setup.threshold);
+    let error = squared_error(p, kept, &coeffs);
     Fit {
         report: Report {
             stop,
             refits,
             kept,
             term,
+            error,
         },
         coeffs,
         causes,

@@ -27,15 +27,16 @@ pub fn answered(input: &[u8]) -> (Vec<u8>, Result<(Solver, Fit), Refusal>) {
     }
 }
 
-/// The lines of a fit: stop, refits, kept word and refused term, then a coefficient a line.
+/// The lines of a fit: stop, refits, kept word, refused term and error, then a coefficient a line.
 pub fn fit_text(fit: &Fit) -> String {
     let r = fit.report;
     let mut text = format!(
-        "{:02x}{:04x}{:016x}{:02x}\n",
+        "{:02x}{:04x}{:016x}{:02x}{:016x}\n",
         r.stop.code(),
         r.refits,
         r.kept,
-        r.term
+        r.term,
+        shown(r.error)
     );
     for &c in &fit.coeffs {
         writeln!(text, "{:016x}", shown(c)).expect("a String takes it");
@@ -165,7 +166,8 @@ mod tests {
     const F1_IN: &str = "01000202000a3fe00000000000000000000000000000\n\
         40080000000000003ff00000000000000000000000000000\n\
         3fd000000000000000000000000000003ff0000000000000\n";
-    const F1_OUT: &str = "0400010000000000000001ff\n4008000000000000\n0000000000000000\n";
+    const F1_OUT: &str = "0400010000000000000001ff3fb0000000000000\n\
+        4008000000000000\n0000000000000000\n";
 
     fn answer(input: &str) -> String {
         String::from_utf8(respond(input.as_bytes())).unwrap()
@@ -201,7 +203,7 @@ mod tests {
         assert_eq!(header("03", "ffff", "ff", "ffff"), "ff01\n");
         assert_eq!(
             header("02", "0000", "00", "03e8"),
-            "0000000000000000000000ff\n"
+            "0000000000000000000000ff0000000000000000\n"
         );
     }
 
@@ -223,7 +225,7 @@ mod tests {
         );
         assert_eq!(
             answer(&input),
-            "0500000000000000000000ff\n7ff8000000000000\n"
+            "0500000000000000000000ff7ff8000000000000\n7ff8000000000000\n"
         );
     }
 }

@@ -14,6 +14,7 @@ pub mod fit;
 pub mod frames;
 pub mod generate;
 pub mod histogram;
+pub mod leftover;
 pub mod model;
 pub mod pairs;
 pub mod problem;

@@ -2,7 +2,7 @@
 
 use crate::bits::{first_difference, same};
 use crate::cause::Cause;
-use crate::fit::{NO_TERM, Report, Stop, fit};
+use crate::fit::{NO_TERM, Stop, fit};
 use crate::frames::respond;
 use crate::linalg::{invert_spd, qr, solve_lu, solve_spd_cholesky};
 use crate::model;
@@ -103,90 +103,47 @@ fn one(theta: f64, target: f64, lambda: f64, threshold: f64, max_iter: usize) ->
 
 fn fits() -> Vec<Line> {
     use Stop::*;
-    let case_at = |name, p: Problem, coeffs: &[f64], stop, refits, kept, term| {
+    let case_at = |name, p: Problem, coeffs: &[f64], stop, refits, kept, term, error| {
         let got = fit(&p);
-        let report = Report {
-            stop,
-            refits,
-            kept,
-            term,
-        };
-        let holds = got.report == report && first_difference(&got.coeffs, coeffs).is_none();
         let r = got.report;
+        let told = (r.stop, r.refits, r.kept, r.term) == (stop, refits, kept, term);
+        let fitted = first_difference(&got.coeffs, coeffs).is_none();
         let says = format!(
-            "{:?}, {:?}, {} refits, word {:x}, term {:02x}",
-            got.coeffs, r.stop, r.refits, r.kept, r.term
+            "{:?}, {:?}, {} refits, word {:x}, term {:02x}, error {:e}",
+            got.coeffs, r.stop, r.refits, r.kept, r.term, r.error
         );
-        line(name, says, holds)
+        line(name, says, told && fitted && same(r.error, error))
     };
-    let case = |name, p, coeffs: &[f64], stop, refits, kept| {
-        case_at(name, p, coeffs, stop, refits, kept, NO_TERM)
+    let case = |name, p, coeffs: &[f64], stop, refits, kept, error| {
+        case_at(name, p, coeffs, stop, refits, kept, NO_TERM, error)
     };
+    let (nan, below) = (f64::NAN, 1_f64.next_down());
+    let (large, tiny) = (2.0_f64.powi(56) + 64.0, 2.0_f64.powi(-60));
     vec![
-        case("F1", f1(0.5, 10), &[3.0, 0.0], Settled, 1, 1),
-        case("F2", f1(0.5, 0), &[3.0, 0.0], OutOfRounds, 0, 1),
-        case("F3", f1(0.5, 1), &[3.0, 0.0], Settled, 1, 1),
-        case("F4", f1(4.0, 10), &[0.0, 0.0], Empty, 0, 0),
-        case_at(
-            "F5",
-            one(0.0, 1.0, 0.0, 0.5, 1),
-            &[0.0],
-            FirstRefused,
-            0,
-            0,
-            0,
-        ),
-        case("F6", one(1.0, 0.5, 0.0, 0.5, 2), &[0.5], Settled, 1, 1),
-        case(
-            "F7",
-            one(0.0, 1.0, -1.0, 0.0, 0),
-            &[-0.0],
-            OutOfRounds,
-            0,
-            1,
-        ),
-        case(
-            "F8",
-            one(1.0, f64::NAN, 0.0, 0.5, 0),
-            &[f64::NAN],
-            OutOfRounds,
-            0,
-            0,
-        ),
-        case("F8", one(1.0, f64::NAN, 0.0, 0.5, 1), &[0.0], Empty, 0, 0),
-        case("G3", falling(&[-0.25, 0.25]), &[0.0; 2], OutOfRounds, 1, 0),
-        case(
-            "G4",
-            falling(&[-0.25, 0.25, 3.0]),
-            &[0.0, 0.0, 3.0],
-            OutOfRounds,
-            1,
-            4,
-        ),
-        case_at("G5", g5(), &[0.0; 2], RefitRefused, 1, 0, 1),
-        case_at(
-            "G6",
-            rows(Solver::Normal, &[1.0, 33_554_432.0], &[1.0], 0.0),
-            &[0.0; 2],
-            FirstRefused,
-            0,
-            0,
-            1,
-        ),
-        case_at(
-            "G7",
-            rows(Solver::Qr, &[0.0; 2], &[1.0], 0.0),
-            &[0.0; 2],
-            FirstRefused,
-            0,
-            0,
-            1,
-        ),
-        case_at("G8", g8(), &[0.0; 3], RefitRefused, 1, 0, 2),
-        case("G9", g9(), &[1_f64.next_down(), 1.0, 1.0], Settled, 1, 7),
-        case("G10", apart(0.5, 1.0), &[0.5, 1.0], Settled, 1, 3),
-        case("G11", apart(1.0, 0.25), &[0.0, 1.0], Settled, 1, 2),
-        case("G12", g12(), &[f64::NAN], OutOfRounds, 0, 0),
+        case("F1", f1(0.5, 10), &[3.0, 0.0], Settled, 1, 1, 0.0625),
+        case("F2", f1(0.5, 0), &[3.0, 0.0], OutOfRounds, 0, 1, 0.0625),
+        case("F3", f1(0.5, 1), &[3.0, 0.0], Settled, 1, 1, 0.0625),
+        case("F4", f1(4.0, 10), &[0.0, 0.0], Empty, 0, 0, 9.0625),
+        case_at("F5", f5(), &[0.0], FirstRefused, 0, 0, 0, 1.0),
+        case("F6", f6(), &[0.5], Settled, 1, 1, 0.0),
+        case("F7", f7(), &[-0.0], OutOfRounds, 0, 1, 1.0),
+        case("F8", f8(0), &[nan], OutOfRounds, 0, 0, nan),
+        case("F8", f8(1), &[0.0], Empty, 0, 0, nan),
+        case("G2", no_rows(), &[0.0; 2], NoData, 0, 3, 0.0),
+        case("G3", g3(), &[0.0; 2], OutOfRounds, 1, 0, 0.125),
+        case("G4", g4(), &[0.0, 0.0, 3.0], OutOfRounds, 1, 4, 0.125),
+        case_at("G5", g5(), &[0.0; 2], RefitRefused, 1, 0, 1, 9.0),
+        case_at("G6", g6(), &[0.0; 2], FirstRefused, 0, 0, 1, 1.0),
+        case_at("G7", g7(), &[0.0; 2], FirstRefused, 0, 0, 1, 1.0),
+        case_at("G8", g8(), &[0.0; 3], RefitRefused, 1, 0, 2, 1.0),
+        case("G9", g9(), &[below, 1.0, 1.0], Settled, 1, 7, large),
+        case("G10", apart(0.5, 1.0), &[0.5, 1.0], Settled, 1, 3, 36.5625),
+        case("G11", apart(1.0, 0.25), &[0.0, 1.0], Settled, 1, 2, 36.0625),
+        case("G12", g12(), &[nan], OutOfRounds, 0, 0, 1.0),
+        case("G13", infinite(0.0), &[0.0], Empty, 0, 1, nan),
+        case("G14", infinite(0.5), &[0.0], Empty, 0, 0, 1.0),
+        case("G15", cancelling(), &[-1.0, 1.0], Settled, 1, 3, tiny * tiny),
+        case("G16", no_columns(), &[], NoData, 0, 0, 9.0625),
     ]
 }
 
@@ -202,15 +159,37 @@ fn causes() -> Vec<Line> {
         case("F2", f1(0.5, 0), &[Kept, Zeroed(0.25)]),
         case("F3", f1(0.5, 1), &[Kept, Dropped(1, 0.25)]),
         case("F4", f1(4.0, 10), &[Dropped(1, 3.0), Dropped(1, 0.25)]),
-        case("F5", one(0.0, 1.0, 0.0, 0.5, 1), &[FirstRefused]),
-        case("F8", one(1.0, f64::NAN, 0.0, 0.5, 0), &[LeftNan]),
-        case(
-            "G4",
-            falling(&[-0.25, 0.25, 3.0]),
-            &[Zeroed(-0.25), Dropped(1, 0.25), Kept],
-        ),
+        case("F5", f5(), &[FirstRefused]),
+        case("F8", f8(0), &[LeftNan]),
+        case("G4", g4(), &[Zeroed(-0.25), Dropped(1, 0.25), Kept]),
         case("G5", g5(), &[Dropped(1, 0.0), Cleared(1)]),
     ]
+}
+
+fn f5() -> Problem {
+    one(0.0, 1.0, 0.0, 0.5, 1)
+}
+
+fn f6() -> Problem {
+    one(1.0, 0.5, 0.0, 0.5, 2)
+}
+
+fn f7() -> Problem {
+    one(0.0, 1.0, -1.0, 0.0, 0)
+}
+
+fn f8(max_iter: usize) -> Problem {
+    one(1.0, f64::NAN, 0.0, 0.5, max_iter)
+}
+
+/// Both terms fall, one after the other.
+fn g3() -> Problem {
+    falling(&[-0.25, 0.25])
+}
+
+/// So do two of three.
+fn g4() -> Problem {
+    falling(&[-0.25, 0.25, 3.0])
 }
 
 /// Some readings of some ports, threshold 0.5.
@@ -230,6 +209,16 @@ fn rows(solver: Solver, theta: &[f64], target: &[f64], lambda: f64) -> Problem {
 /// The refit of the second column alone is refused: its place is 0, its term 1.
 fn g5() -> Problem {
     rows(Solver::Normal, &[1.0, 1.0, 1.0, 0.0], &[0.0, 3.0], -1.0)
+}
+
+/// Cholesky refuses the first column, whose sum is small beside the other's; LU the second.
+fn g6() -> Problem {
+    rows(Solver::Normal, &[1.0, 33_554_432.0], &[1.0], 0.0)
+}
+
+/// Both columns are zeros: the back substitution meets the last one first.
+fn g7() -> Problem {
+    rows(Solver::Qr, &[0.0; 2], &[1.0], 0.0)
 }
 
 /// Ports 1 and 2 are alike. Their refit is refused at place 1, which is term 2.
@@ -260,6 +249,31 @@ fn apart(reading: f64, target: f64) -> Problem {
 fn g12() -> Problem {
     let mut p = rows(Solver::Marquardt, &[f64::NAN], &[1.0], 3.0);
     p.setup.max_iter = 0;
+    p
+}
+
+/// An infinite reading, whose solve gives a NaN: the look finds nothing. At a threshold of zero the cleared term is kept.
+fn infinite(threshold: f64) -> Problem {
+    one(f64::INFINITY, 1.0, 0.0, threshold, 1)
+}
+
+/// The products of the first row, -1 and 1, cancel, and its target is left; taken from it in turn they would leave nothing.
+fn cancelling() -> Problem {
+    let target = [2.0_f64.powi(-60), 1.0];
+    rows(Solver::Normal, &[1.0, 1.0, 0.0, 1.0], &target, 0.0)
+}
+
+/// Two ports and no reading, at a threshold of zero.
+fn no_rows() -> Problem {
+    let mut p = f1(0.0, 10);
+    (p.rows, p.theta, p.target) = (0, vec![], vec![]);
+    p
+}
+
+/// F1's target alone.
+pub fn no_columns() -> Problem {
+    let mut p = f1(0.5, 10);
+    (p.cols, p.theta) = (0, vec![]);
     p
 }
 
@@ -318,7 +332,7 @@ fn exchange() -> Line {
     let input = "01000202000a3fe00000000000000000000000000000\n\
         40080000000000003ff00000000000000000000000000000\n\
         3fd000000000000000000000000000003ff0000000000000\n";
-    let output = "0400010000000000000001ff\n4008000000000000\n0000000000000000\n";
+    let output = "0400010000000000000001ff3fb0000000000000\n4008000000000000\n0000000000000000\n";
     line(
         "F1",
         "as frames, byte for byte",

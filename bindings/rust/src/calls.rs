@@ -249,7 +249,7 @@ fn fit(
     coeffs: &mut [f64],
     workspace: &mut [f64],
 ) -> Result<Report, Refusal> {
-    let mut report = [0; 4];
+    let (mut report, mut error) = ([0; 4], [0.0]);
     Refusal::answer(unsafe {
         call(
             theta.as_ptr(),
@@ -266,9 +266,10 @@ fn fit(
             workspace.as_mut_ptr(),
             workspace.len(),
             &mut report,
+            &mut error,
         )
     })?;
-    Ok(Report::from_words(report))
+    Ok(Report::from_words(report, error))
 }
 
 /// The workspace that [`strlsq`] needs, in numbers; 0 also where the sizes are beyond the limits, which it refuses.

@@ -15,6 +15,7 @@
 //! let report = strlsq(&theta, 2, 2, &target, setup, &mut coeffs, &mut workspace)?;
 //! assert_eq!((report.stop, report.refits, report.kept), (Stop::Settled, 1, 1));
 //! assert_eq!(coeffs, [3.0, 0.0]);
+//! assert_eq!(report.error, 0.0625);
 //! # Ok::<(), dapmotar::Refusal>(())
 //! ```
 

@@ -1,9 +1,9 @@
 //! The exports of the static library, as include/dapmotar.h declares them. A slice is a pointer and a length; a
 //! null pointer with length 0 is an empty slice. What is written must not overlap anything else that is read or
-//! written, and `report`, `column`, `cause`, `value` and `answer` are never null.
+//! written, and `report`, `error`, `column`, `cause`, `value` and `answer` are never null.
 
 /// The room for an answer of [`dapmotar_respond`], in bytes.
-pub const ANSWER: usize = 297;
+pub const ANSWER: usize = 313;
 
 /// The room for an answer of [`dapmotar_respond_why`], in bytes.
 pub const WHY_ANSWER: usize = 368;
@@ -37,6 +37,7 @@ alike! {
         workspace: *mut f64,
         workspace_len: usize,
         report: *mut [u64; 4],
+        error: *mut [f64; 1],
     ) -> u64
 }
 

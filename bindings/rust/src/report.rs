@@ -28,8 +28,8 @@ pub enum Stop {
     OutOfRounds,
 }
 
-/// What a fit says beside its coefficients.
-#[derive(Clone, Copy, Debug, PartialEq, Eq, Hash)]
+/// What a fit says beside its coefficients. One whose error is NaN equals none, as a NaN does.
+#[derive(Clone, Copy, Debug, PartialEq)]
 pub struct Report {
     /// Why it ended.
     pub stop: Stop,
@@ -37,11 +37,14 @@ pub struct Report {
     pub refits: u64,
     /// Bit j is one exactly if term j's final magnitude is at least the threshold.
     pub kept: u64,
+    /// The squared error that the kept terms leave: over the rows, the squares of the target less the sum of the kept
+    /// terms' products. It is there after every stop. A kept zero times an infinite reading makes it NaN.
+    pub error: f64,
 }
 
 impl Report {
-    /// A report as the library writes it: stop, refits, kept word, refused term.
-    pub(crate) fn from_words([stop, refits, kept, term]: [u64; 4]) -> Report {
+    /// A report as the library writes it: stop, refits, kept word, refused term, and the error.
+    pub(crate) fn from_words([stop, refits, kept, term]: [u64; 4], [error]: [f64; 1]) -> Report {
         let term = term as usize;
         let stop = match stop {
             0 => Stop::NoData,
@@ -52,6 +55,11 @@ impl Report {
             5 => Stop::OutOfRounds,
             other => unreachable!("the library gives no stop {other}"),
         };
-        Report { stop, refits, kept }
+        Report {
+            stop,
+            refits,
+            kept,
+            error,
+        }
     }
 }

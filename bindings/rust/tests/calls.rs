@@ -195,6 +195,7 @@ fn fits() {
         stop: Stop::Settled,
         refits: 1,
         kept: 1,
+        error: 0.0625,
     });
     let mut coeffs = [9.0; 2];
 
@@ -232,6 +233,7 @@ fn fits() {
             stop: Stop::Settled,
             refits: 1,
             kept: 3,
+            error: 36.5625,
         })
     );
     assert_eq!(coeffs, [0.5, 1.0]);
@@ -252,7 +254,8 @@ fn fits() {
         &mut coeffs,
         &mut workspace,
     );
-    assert_eq!(report.map(|r| r.stop), Ok(Stop::RefitRefused(1)));
+    let stop_and_error = report.map(|r| (r.stop, r.error));
+    assert_eq!(stop_and_error, Ok((Stop::RefitRefused(1), 9.0)));
     assert_eq!(coeffs, [0.0, 0.0]);
 
     let mut workspace = vec![9.0; strlsq_qr_workspace(2, 2)];
@@ -281,9 +284,70 @@ fn empty_slices() {
         Ok(Report {
             stop: Stop::NoData,
             refits: 0,
-            kept: 0
+            kept: 0,
+            error: 0.0,
         })
     );
+    assert_eq!(report.map(|r| r.error.to_bits()), Ok(0));
+    let report = strlsq(&[], 2, 0, &[3.0, 0.25], setup, &mut [], &mut []);
+    assert_eq!(report.map(|r| r.error), Ok(9.0625));
+}
+
+/// An infinite reading makes the coefficient NaN, which no look keeps: the fit is Empty, and the coefficient a zero.
+#[test]
+fn the_error_of_a_kept_zero() {
+    let fitted = |threshold| {
+        let setup = Setup {
+            threshold,
+            lambda: 0.0,
+            max_iter: 1,
+        };
+        let (mut coeffs, mut workspace) = ([9.0], [9.0; 5]);
+        let report = strlsq(
+            &[f64::INFINITY],
+            1,
+            1,
+            &[2.0],
+            setup,
+            &mut coeffs,
+            &mut workspace,
+        );
+        let report = report.expect("accepted");
+        assert_eq!((report.stop, coeffs), (Stop::Empty, [0.0]));
+        (report.kept, report.error)
+    };
+    assert_eq!(fitted(0.5), (0, 4.0));
+    // at a threshold of zero it is kept
+    let (kept, error) = fitted(0.0);
+    assert!(kept == 1 && error.is_nan());
+}
+
+#[test]
+fn a_refusal_leaves_the_report_and_its_error() {
+    let (mut report, mut error) = ([7; 4], [7.0]);
+    let mut fit = |max_iter| unsafe {
+        let (theta, mut coeffs, mut workspace) = ([1.0], [9.0], [9.0; 5]);
+        let answer = raw::dapmotar_strlsq(
+            theta.as_ptr(),
+            1,
+            1,
+            1,
+            theta.as_ptr(),
+            1,
+            0.125,
+            3.0,
+            max_iter,
+            coeffs.as_mut_ptr(),
+            1,
+            workspace.as_mut_ptr(),
+            5,
+            &mut report,
+            &mut error,
+        );
+        (answer, report, error)
+    };
+    assert_eq!(fit(1001), (3, [7; 4], [7.0]));
+    assert_eq!(fit(1000), (0, [4, 1, 1, 255], [0.5625]));
 }
 
 #[test]
@@ -292,7 +356,7 @@ fn exchange() {
         40080000000000003ff00000000000000000000000000000\n\
         3fd000000000000000000000000000003ff0000000000000\n";
     let mut answer = [b'.'; ANSWER];
-    let said = b"0400010000000000000001ff\n4008000000000000\n0000000000000000\n";
+    let said = b"0400010000000000000001ff3fb0000000000000\n4008000000000000\n0000000000000000\n";
     assert_eq!(respond(input, &mut answer), said);
     assert_eq!(answer[said.len()..], [b'.'; ANSWER][said.len()..]);
     assert_eq!(respond(b"", &mut answer), b"ff0b\n");

@@ -1,9 +1,10 @@
--- An export gives its call's answer as a number, and a fit its report beside it. Assumes nothing.
+-- An export gives its call's answer as a number, and a fit its report and its error beside it. Assumes nothing.
 use mathlib.Core.Path.{_≡_}
 use mathlib.Core.Bool.{cond}
 use mathlib.Core.List.{List, [], _∷_}
 use Prim.Native.Nat.{ℕ}
 use lib.Dec.{ltb}
+use lib.Ieee.{Float}
 use Rattle.refusal.specs.Answers.{answer-column}
 use Rattle.refusal.specs.declared.Column.{Column}
 use Rattle.refusal.specs.declared.Column.the-variants.{None, At}
@@ -25,10 +26,16 @@ abbrev pub report-numbers : Fitted → List ℕ → List ℕ
 report-numbers (Fit f) old = stop-code (f .stop) ∷ f .refits ∷ f .kept .0 ∷ stop-term (f .stop) ∷ []
 report-numbers (Refused w) old = old
 
--- the call C of a fit, and its report
-pub record Reported (C : Fitted → Type 0) (old new : List ℕ) (answer : Fitted) : Type 0 where
+-- the squared error after a fit; a refusal leaves it unchanged
+abbrev pub report-error : Fitted → List Float → List Float
+report-error (Fit f) old = f .error ∷ []
+report-error (Refused w) old = old
+
+-- the call C of a fit, its report and its error
+pub record Reported (C : Fitted → Type 0) (old new : List ℕ) (was is : List Float) (answer : Fitted) : Type 0 where
   pub fit : C answer
   pub report : new ≡ report-numbers answer old
+  pub error : is ≡ report-error answer was
 
 -- the column at which a solver refused; where it tells none, what stood there
 abbrev pub column-numbers : Column → List ℕ → List ℕ

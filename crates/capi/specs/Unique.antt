@@ -102,14 +102,14 @@ export-qr-unique a m n d b w d' b' w' d'' b'' w'' r s p q =
     let same = qr-unique a m n d b w d' b' w' d'' b'' w'' _ _ (p .call) (q .call) in
     (numbered p q (same .0), same .1, same .2, same .3)
 
-module _ (task : Task) (theta target cs w cs' w' cs'' w'' : List Float) (p p' p'' : List ℕ) where
+module _ (task : Task) (theta target cs w cs' w' cs'' w'' : List Float) (p p' p'' : List ℕ) (e e' e'' : List Float) where
   pub export-fit-unique : (r s : ℕ)
-      → Numbered fitted-number (Reported (FitCall task theta target cs cs' w w') p p') r
-      → Numbered fitted-number (Reported (FitCall task theta target cs cs'' w w'') p p'') s → (r ≡ s) × (cs' ≡ cs'') × (w' ≡ w'') × (p' ≡ p'')
+      → Numbered fitted-number (Reported (FitCall task theta target cs cs' w w') p p' e e') r
+      → Numbered fitted-number (Reported (FitCall task theta target cs cs'' w w'') p p'' e e'') s → (r ≡ s) × (cs' ≡ cs'') × (w' ≡ w'') × (p' ≡ p'') × (e' ≡ e'')
   export-fit-unique r s h k =
       let same = fit-unique task theta target cs w cs' w' cs'' w'' _ _ (h .call .fit) (k .call .fit) in
       let answers = same .0 in
-      (numbered h k answers, same .1, same .2, cc)
+      (numbered h k answers, same .1, same .2, cc, cc)
 
 -- by any code: an unknown one leaves no choice either
 coded-unique : (k : Coded) (rows n : ℕ) (setup : Setup) (j : ℕ) (theta target cs w cs' w' cs'' w'' : List Float) (r s : Caused)

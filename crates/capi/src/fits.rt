@@ -1,6 +1,6 @@
 // The three fits, and the workspace that each needs.
 ghost use mathlib.Core.Path.{_≡_};
-ghost use Rattle.capi.specs.Numbered.{Numbered, Reported, report-numbers, workspace};
+ghost use Rattle.capi.specs.Numbered.{Numbered, Reported, report-numbers, report-error, workspace};
 ghost use Rattle.rule.specs.Tasks.{setup-of, task-of};
 ghost use Rattle.rule.specs.Calls.{FitCall};
 ghost use Rattle.rule.specs.Codes.{fitted-number};
@@ -12,9 +12,9 @@ use rule::inner::needed;
 use rule::stop_code;
 use rule::stop_term;
 
-// Stop, refits, kept word and refused term of a fit into `report`; a refusal leaves it unchanged.
-fn put_report(answer: Fitted, report: &mut [u64; 4])
-    ensures { λ _. ⌜ now (report .exit) ≡ report-numbers answer (now (report .entry)) ⌝ }
+// Stop, refits, kept word and refused term of a fit into `report`, its squared error into `error`; a refusal leaves both unchanged.
+fn put_report(answer: Fitted, report: &mut [u64; 4], error: &mut [f64; 1])
+    ensures { λ _. ⌜ (now (report .exit) ≡ report-numbers answer (now (report .entry))) × (now (error .exit) ≡ report-error answer (now (error .entry))) ⌝ }
 {
     if let Fitted::Fit(f) = answer {
         let stop = f.stop;
@@ -25,10 +25,11 @@ fn put_report(answer: Fitted, report: &mut [u64; 4])
             kept.0,
             stop_term(stop) as u64,
         ];
+        *error = [f.error];
     }
 }
 
-// Sequential thresholded ridge regression, each solve by the normal equations. `report` is stop, refits, kept word and refused term (255: none) after a fit.
+// Sequential thresholded ridge regression, each solve by the normal equations. After a fit `report` is stop, refits, kept word and refused term (255: none), `error` the squared error.
 #[no_mangle]
 pub extern "C" fn dapmotar_strlsq(
     theta: &[f64],
@@ -41,9 +42,11 @@ pub extern "C" fn dapmotar_strlsq(
     coeffs: &mut [f64],
     workspace: &mut [f64],
     report: &mut [u64; 4],
+    error: &mut [f64; 1],
 ) -> u64
     ensures { λ r. ⌜ Numbered fitted-number (Reported (FitCall (task-of Solver.Normal «n_rows» «n_cols» (setup-of threshold lambda «max_iter»))
-        (now (theta .entry)) (now (target .entry)) (now (coeffs .entry)) (now (coeffs .exit)) (now (workspace .entry)) (now (workspace .exit))) (now (report .entry)) (now (report .exit))) r ⌝ }
+        (now (theta .entry)) (now (target .entry)) (now (coeffs .entry)) (now (coeffs .exit)) (now (workspace .entry)) (now (workspace .exit)))
+        (now (report .entry)) (now (report .exit)) (now (error .entry)) (now (error .exit))) r ⌝ }
 {
     let setup = Setup {
         threshold: threshold,
@@ -51,7 +54,7 @@ pub extern "C" fn dapmotar_strlsq(
         max_iter: max_iter,
     };
     let answer = strlsq::strlsq(theta, n_rows, n_cols, target, setup, coeffs, workspace);
-    put_report(answer, report);
+    put_report(answer, report, error);
     fitted_number(answer)
 }
 
@@ -68,9 +71,11 @@ pub extern "C" fn dapmotar_strlsq_qr(
     coeffs: &mut [f64],
     workspace: &mut [f64],
     report: &mut [u64; 4],
+    error: &mut [f64; 1],
 ) -> u64
     ensures { λ r. ⌜ Numbered fitted-number (Reported (FitCall (task-of Solver.Qr «n_rows» «n_cols» (setup-of threshold lambda «max_iter»))
-        (now (theta .entry)) (now (target .entry)) (now (coeffs .entry)) (now (coeffs .exit)) (now (workspace .entry)) (now (workspace .exit))) (now (report .entry)) (now (report .exit))) r ⌝ }
+        (now (theta .entry)) (now (target .entry)) (now (coeffs .entry)) (now (coeffs .exit)) (now (workspace .entry)) (now (workspace .exit)))
+        (now (report .entry)) (now (report .exit)) (now (error .entry)) (now (error .exit))) r ⌝ }
 {
     let setup = Setup {
         threshold: threshold,
@@ -78,7 +83,7 @@ pub extern "C" fn dapmotar_strlsq_qr(
         max_iter: max_iter,
     };
     let answer = strlsq::strlsq_qr(theta, n_rows, n_cols, target, setup, coeffs, workspace);
-    put_report(answer, report);
+    put_report(answer, report, error);
     fitted_number(answer)
 }
 
@@ -95,9 +100,11 @@ pub extern "C" fn dapmotar_strlsq_marquardt(
     coeffs: &mut [f64],
     workspace: &mut [f64],
     report: &mut [u64; 4],
+    error: &mut [f64; 1],
 ) -> u64
     ensures { λ r. ⌜ Numbered fitted-number (Reported (FitCall (task-of Solver.Marquardt «n_rows» «n_cols» (setup-of threshold lambda «max_iter»))
-        (now (theta .entry)) (now (target .entry)) (now (coeffs .entry)) (now (coeffs .exit)) (now (workspace .entry)) (now (workspace .exit))) (now (report .entry)) (now (report .exit))) r ⌝ }
+        (now (theta .entry)) (now (target .entry)) (now (coeffs .entry)) (now (coeffs .exit)) (now (workspace .entry)) (now (workspace .exit)))
+        (now (report .entry)) (now (report .exit)) (now (error .entry)) (now (error .exit))) r ⌝ }
 {
     let setup = Setup {
         threshold: threshold,
@@ -105,7 +112,7 @@ pub extern "C" fn dapmotar_strlsq_marquardt(
         max_iter: max_iter,
     };
     let answer = strlsq::strlsq_marquardt(theta, n_rows, n_cols, target, setup, coeffs, workspace);
-    put_report(answer, report);
+    put_report(answer, report, error);
     fitted_number(answer)
 }
 

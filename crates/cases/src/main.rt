@@ -3,7 +3,7 @@ mod list;
 mod replay;
 
 // Longer than the list.
-const ROOM: usize = 262144;
+const ROOM: usize = 327680;
 
 fn main() {
     let mut room = [0u8; ROOM];

@@ -9,11 +9,12 @@ use lib.Seq.{split-at, append-snoc, length-take-le}
 use lib.Ieee.{Float, nan, binary64, fits}
 use Rattle.steps.specs.Num.{at}
 use Rattle.hex.specs.Hex.{number-at, float, digits, bits, newline}
-use Rattle.hex.specs.ReadBack.{length-digits, number-in, float-back}
+use Rattle.hex.specs.ReadBack.{length-digits, number-in, float-back, float-in}
 use Rattle.rule.specs.Rule.{Fit}
 use Rattle.rule.specs.Calls.{report-of}
 use Rattle.rule.specs.Codes.{stop-code, stop-term}
 use Rattle.rule.specs.Promises.{coefficients-fit}
+use Rattle.rule.specs.Errors.{error-fits}
 use Rattle.rule.specs.declared.Task.{Task}
 use Rattle.rule.specs.declared.Stop.{Stop}
 use Rattle.rule.specs.declared.Stop.the-variants.{NoData, FirstRefused, Empty, RefitRefused, Settled, OutOfRounds}
@@ -34,6 +35,7 @@ pub record Says (a : List ℕ) (f : Fit) : Type 0 where
   pub refits : number-at a 2 4 ≡ f .refits
   pub kept : number-at a 6 16 ≡ f .kept
   pub term : number-at a 22 2 ≡ stop-term (f .stop)
+  pub error : float a 24 ≡ f .error
   pub coefficient : (j : ℕ) → j < length (f .coeffs) → float a (report-bytes + coefficient-bytes * j) ≡ at (f .coeffs) j
 
 code-lt : (s : Stop) → stop-code s < 16 ^ 2
@@ -60,19 +62,22 @@ module _ (report : List ℕ) (xs : List Float) (j : ℕ) (h : j < length xs) (f 
       rw (line-at xs j h, ← append-assoc report (coefficient-lines (take j xs)), ← place) (float-back (at xs j) before _ f)
 
 -- lines say what was written, where its digits hold it
-lines-read-back : (f : Fit) → f .refits < 16 ^ 4 → f .kept < 16 ^ 16 → stop-term (f .stop) < 16 ^ 2 → ((j : ℕ) → T (fits binary64 (at (f .coeffs) j))) → Says (fit-lines f) f
+lines-read-back : (f : Fit) → f .refits < 16 ^ 4 → f .kept < 16 ^ 16 → stop-term (f .stop) < 16 ^ 2 → T (fits binary64 (f .error)) → ((j : ℕ) → T (fits binary64 (at (f .coeffs) j))) → Says (fit-lines f) f
 unfolding fit-lines report-line
-lines-read-back f r k u g =
+lines-read-back f r k u x g =
     let stop = digits 2 (stop-code (f .stop)) in
     let refits = digits 4 (f .refits) in
     let kept = digits 16 (f .kept) in
     let term = digits 2 (stop-term (f .stop)) in
-    let lines = (newline ∷ []) ++ coefficient-lines (f .coeffs) in
+    let error = digits 16 (bits (f .error)) in
+    let rest = (newline ∷ []) ++ coefficient-lines (f .coeffs) in
+    let lines = error ++ rest in
     record {
       stop = number-in _ [] (refits ++ (kept ++ (term ++ lines))) 0 2 _ (simp append-assoc) refl (code-lt (f .stop));
       refits = number-in _ stop (kept ++ (term ++ lines)) 2 4 _ (simp append-assoc) (length-digits 2 _) r;
       kept = number-in _ (stop ++ refits) (term ++ lines) 6 16 _ (simp append-assoc) (simp (length-append, length-digits)) k;
       term = number-in _ (stop ++ (refits ++ kept)) lines 22 2 _ (simp append-assoc) (simp (length-append, length-digits)) u;
+      error = float-in _ (stop ++ (refits ++ (kept ++ term))) rest 24 _ (simp append-assoc) (simp (length-append, length-digits)) x;
       coefficient = λ j h. coefficient-back (report-line (report-of f)) (f .coeffs) j h (g j) (length-report (report-of f));
     }
 
@@ -81,9 +86,14 @@ coefficients-in-format : (s : List ℕ) (task : Task) (j : ℕ) → T (fits bina
 unfolding fit-asked
 coefficients-in-format s task = coefficients-fit task _ (at (target-asked s task)) (target-fits s task)
 
--- the answer to an accepted input says its fit: the stop, the refits, the kept word, the refused term, and each coefficient, a NaN as a NaN
+-- and so is its error
+error-in-format : (s : List ℕ) (task : Task) → T (fits binary64 (fit-asked s task .error))
+unfolding fit-asked
+error-in-format s task = error-fits task _ _
+
+-- the answer to an accepted input says its fit: the stop, the refits, the kept word, the refused term, the squared error, and each coefficient, a NaN as a NaN
 pub answer-read-back : (s : List ℕ) (task : Task) → head-of s ≡ Good task → checked s task ≡ Done → Says (answer-of s) (fit-asked s task)
 unfolding answer-lines
 answer-read-back s task e c =
     let ok = was-accepted s task c in
-    rw (answer-good s task Done e c) (lines-read-back (fit-asked s task) (refits-within s task ok) (kept-within s task ok) (term-within s task ok) (coefficients-in-format s task))
+    rw (answer-good s task Done e c) (lines-read-back (fit-asked s task) (refits-within s task ok) (kept-within s task ok) (term-within s task ok) (error-in-format s task) (coefficients-in-format s task))

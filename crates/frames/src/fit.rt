@@ -16,6 +16,7 @@ use exchange::inner::THETA;
 use exchange::inner::read_rows;
 use rule::Task;
 use strlsq::inner::fit_in;
+use strlsq::inner::report;
 use support::Term;
 use writer::inner::write_fit;
 
@@ -33,8 +34,10 @@ fn fit_into(
     ensures { λ r. ⌜ Written 0 (fit-lines (fit-of task (now (theta .entry)) (now (target .entry)))) (now (out .entry)) (now (out .exit)) r ⌝ }
 {
     let watched = fit_in(task, theta, target, Term(0), coeffs, workspace);
-    let report = watched.report;
-    write_fit(report, coeffs, out)
+    let stop = watched.stop;
+    let refits = watched.refits;
+    let reported = report(task, theta, target, stop, refits, coeffs);
+    write_fit(reported, coeffs, out)
 }
 
 // The same, with room for the coefficients and the largest workspace.

@@ -84,3 +84,7 @@ bits-lt (fin s m e) f = toBits-lt binary64 (fin s m e) f
 -- an f64 that was written is read back as itself, a NaN as a NaN
 pub float-back : (x : Float) (before after : List ℕ) → T (fits binary64 x) → float (before ++ (digits 16 (bits x) ++ after)) (length before) ≡ x
 float-back x before after f = ap (ofBits binary64) (read-back 16 (bits x) before after (bits-lt x f)) ∙ bits-back x f
+
+-- so is one that stands in a text from a on
+pub float-in : (s before after : List ℕ) (a : ℕ) (x : Float) → s ≡ before ++ (digits 16 (bits x) ++ after) → length before ≡ a → T (fits binary64 x) → float s a ≡ x
+float-in s before after a x e len f = rw (e, ← len) (float-back x before after f)

@@ -17,7 +17,7 @@ use Rattle.rule.specs.declared.Fitted.the-variants as F
 
 -- the report of a fit
 abbrev pub report-of : Fit → Report
-report-of f = record { stop = f .stop; refits = f .refits; kept = record { 0 = f .kept } }
+report-of f = record { stop = f .stop; refits = f .refits; kept = record { 0 = f .kept }; error = f .error }
 
 -- a refusal, or the report
 abbrev pub fitted : Answer → Fit → Fitted

@@ -159,6 +159,11 @@ module _ (P : Problem) where
 
   -- ---- the kept word
 
+  -- it is the support that a look finds in the final coefficients
+  pub kept-is : (r : ℕ) → fit P r .kept ≡ support P (fit P r .coeffs)
+  unfolding reported
+  kept-is r = of-report P (λ f. f .kept ≡ support P (f .coeffs)) (λ t cs ws. refl) r
+
   -- it is of the problem's terms
   pub kept-lt : (r : ℕ) → fit P r .kept < 2 ^ P .cols
   unfolding reported support

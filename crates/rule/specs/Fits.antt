@@ -13,6 +13,7 @@ use Rattle.places.specs.Columns.{columns}
 use Rattle.sums.specs.Products.{gram, moment, ridge, marquardt, jtj-matrix, jtr-column}
 use Rattle.normal.specs.Normal.{normal}
 use Rattle.least.specs.Least.{least}
+use Rattle.leftover.specs.Error.{squared-error}
 use Rattle.rule.specs.Rule.{Problem, Fit, fit}
 use Rattle.rule.specs.declared.Setup.{Setup}
 use Rattle.rule.specs.declared.Solver.{Solver}
@@ -57,20 +58,21 @@ solves Normal lambda t rows = by-normal (ridge lambda) t rows
 solves Qr lambda t rows = by-least lambda t rows
 solves Marquardt lambda t rows = by-normal (marquardt lambda) t rows
 
--- the problem of a fit: all columns first, then the supported columns in rising order
-unfoldable pub problem : Task → Solves → Entry → Problem
-problem task by e = record {
+-- the problem of a fit: all columns first, then the supported columns in rising order; the error over the kept columns
+unfoldable pub problem : Task → Solves → Entry → (ℕ → Float) → Problem
+problem task by e t = record {
   rows = task .rows;
   cols = task .cols;
   keeps = keeps (task .setup);
   clears = clears (task .setup);
   whole = by (task .cols) e;
   solve = λ w. by (ones w) (columns (task .cols) w e);
+  error = squared-error (task .rows) (task .cols) e t;
 }
 
 -- the problem of a matrix e and a target t, by the task's solver, and its fit within the task's rounds
 abbrev pub problem-by : Task → Entry → (ℕ → Float) → Problem
-problem-by task e t = problem task (solves (task .solver) (task .setup .lambda) t (task .rows)) e
+problem-by task e t = problem task (solves (task .solver) (task .setup .lambda) t (task .rows)) e t
 
 unfoldable pub fit-by : Task → Entry → (ℕ → Float) → Fit
 fit-by task e t = fit (problem-by task e t) (task .setup .«max_iter»)

@@ -20,6 +20,7 @@ pub mod RightSides
 pub mod Values
 pub mod SameFit
 pub mod Made
+pub mod Errors
 pub mod Threshold
 pub mod Promises
 pub mod Demand3

@@ -12,7 +12,8 @@ use Rattle.refusal.specs.Answers.{Solution, solved, refused}
 use Rattle.rule.specs.declared.Stop.{Stop}
 use Rattle.rule.specs.declared.Stop.the-variants.{NoData, FirstRefused, Empty, RefitRefused, Settled, OutOfRounds}
 
--- What a fit is over: its sizes, which terms a look keeps at which value, which the last pass clears, the solve of all columns and of a support's.
+-- What a fit is over: its sizes, which terms a look keeps at which value, which the last pass clears, the solve of all columns and of a support's, and the squared error
+-- that a word's terms leave at coefficients.
 -- Today no term is treated unlike another: the term number is there for a later order, which holds terms.
 pub record Problem : Type 0 where
   pub rows : ℕ
@@ -21,6 +22,7 @@ pub record Problem : Type 0 where
   pub clears : ℕ → Float → Bool
   pub whole : Solution
   pub solve : ℕ → Solution
+  pub error : ℕ → List Float → Float
 
 -- The state between rounds: the coefficients, and the supports of the refits so far, the newest first.
 pub data State : Type 0 where
@@ -33,6 +35,7 @@ pub record Fit : Type 0 where
   pub stop : Stop
   pub refits : ℕ
   pub kept : ℕ
+  pub error : Float
 
 -- the last refitted support: none (0) at first, and no support that is refitted is 0
 abbrev pub latest : List ℕ → ℕ
@@ -85,9 +88,12 @@ rounds P (suc r) = round P (rounds P r)
 unfoldable pub pruned : Problem → List Float → List Float
 pruned P cs = tab (P .cols) (λ j. cond (P .clears j (at cs j)) +zero (at cs j))
 
--- the report: the refits counted, and the kept word of the final coefficients
+-- the report, however the fit stopped: the refits counted, the kept word of the final coefficients, and the squared error that its terms leave at them
 unfoldable pub reported : Problem → Stop → List Float → List ℕ → Fit
-reported P t cs past = record { coeffs = pruned P cs; stop = t; refits = length past; kept = support P (pruned P cs) }
+reported P t cs past =
+    let final = pruned P cs in
+    let kept = support P final in
+    record { coeffs = final; stop = t; refits = length past; kept = kept; error = P .error kept final }
 
 -- rounds used up after so many refits, the last over last, and one more look found w: the same is Settled, anything else, an empty one too, OutOfRounds
 unfoldable pub last-look : ℕ → ℕ → ℕ → Stop

@@ -46,11 +46,12 @@ pub enum Drop {
     Before(usize, f64),
 }
 
-// What stands beside the coefficients: bit j of the kept word is one exactly if the final |c(j)| is at least the threshold.
+// What stands beside the coefficients: bit j of the kept word is one exactly if the final |c(j)| is at least the threshold, and the squared error is what its terms leave.
 pub struct Report {
     pub stop: Stop,
     pub refits: usize,
     pub kept: Support,
+    pub error: f64,
 }
 
 // What a fit answers.

@@ -1,2 +1,2 @@
 -- What a fit promises beside its call. Assumes nothing.
-pub mod Reports
+pub mod Ends

@@ -3,31 +3,34 @@ ghost use mathlib.Core.Path.{_≡_};
 ghost use lib.ListN.{length};
 ghost use Rattle.steps.specs.Space.{cleared};
 ghost use Rattle.rule.specs.Fits.{problem-of, fit-of};
-ghost use Rattle.rule.specs.Sizes.{task-need, Ready};
-ghost use Rattle.rule.specs.Calls.{FitCall};
-ghost use Rattle.strlsq.specs.Reports.{Reports, Saw};
+ghost use Rattle.rule.specs.Sizes.{task-need, Sized, Ready};
+ghost use Rattle.rule.specs.Calls.{report-of, FitCall};
+ghost use Rattle.strlsq.specs.Ends.{Ends, Saw};
 use coeffs::inner::coefficient;
 use coeffs::inner::prune;
 use coeffs::inner::support_of;
 use first::inner::run;
+use leftover::inner::squared_error;
 use refusal::Answer;
 use rule::Drop;
 use rule::Fitted;
 use rule::Report;
+use rule::Stop;
 use rule::Task;
 use rule::inner::fit_sizes;
 use rule::inner::needed;
 use slices::inner::clear;
 use support::Term;
 
-// A fit's report, and what it saw of the term that was watched: the look that dropped it, and its last coefficient before the last pass.
+// How a fit ended, and what it saw of the term that was watched: the look that dropped it, and its last coefficient before the last pass.
 pub struct Watched {
-    pub report: Report,
+    pub stop: Stop,
+    pub refits: usize,
     pub drop: Drop,
     pub last: f64,
 }
 
-// The fit in a workspace that is left as it comes: the rounds, the last pass, and the report of what they left. Whichever term is watched, the fit is the same.
+// The fit in a workspace that is left as it comes: the rounds, and the last pass. Whichever term is watched, the fit is the same.
 pub fn fit_in(
     task: Task,
     theta: &[f64],
@@ -37,22 +40,21 @@ pub fn fit_in(
     ws: &mut [f64],
 ) -> Watched
     requires { ⌜ Ready task (now theta) (now target) (now coeffs) (now ws) ⌝ }
-    ensures { λ r. ⌜ Reports (fit-of task (now (theta .entry)) (now (target .entry))) (r .report) (now (coeffs .exit))
+    ensures { λ r. ⌜ Ends (fit-of task (now (theta .entry)) (now (target .entry))) (r .stop) (r .refits) (now (coeffs .exit))
         × Saw (problem-of task (now (theta .entry)) (now (target .entry))) (task .setup .«max_iter») («term_idx» .0) (r .drop) (r .last) ⌝ }
 {
     let setup = task.setup;
     let ran = run(task, theta, target, term_idx, coeffs, ws);
     let last = coefficient(coeffs, term_idx);
     prune(coeffs, setup);
-    let kept = support_of(coeffs, setup);
     let stop = ran.stop;
     let drop = ran.drop;
-    let report = Report {
+    Watched {
         stop,
         refits: ran.refits,
-        kept,
-    };
-    Watched { report, drop, last }
+        drop,
+        last,
+    }
 }
 
 // A fit that nothing refuses: in as much of the workspace as it needs, which is cleared.
@@ -65,7 +67,7 @@ pub fn fit_ready(
     workspace: &mut [f64],
 ) -> Watched
     requires { ⌜ Ready task (now theta) (now target) (now coeffs) (now workspace) ⌝ }
-    ensures { λ r. ⌜ Reports (fit-of task (now (theta .entry)) (now (target .entry))) (r .report) (now (coeffs .exit))
+    ensures { λ r. ⌜ Ends (fit-of task (now (theta .entry)) (now (target .entry))) (r .stop) (r .refits) (now (coeffs .exit))
         × Saw (problem-of task (now (theta .entry)) (now (target .entry))) (task .setup .«max_iter») («term_idx» .0) (r .drop) (r .last)
         × (now (workspace .exit) ≡ cleared (task-need task) (now (workspace .entry))) ⌝ }
 {
@@ -81,6 +83,29 @@ pub fn fit_ready(
     );
     clear(workspace, need);
     watched
+}
+
+// The report of a fit that ended so and left these coefficients: the word of those that are kept, and the squared error that their terms leave.
+pub fn report(
+    task: Task,
+    theta: &[f64],
+    target: &[f64],
+    stop: Stop,
+    refits: usize,
+    coeffs: &[f64],
+) -> Report
+    requires { ⌜ Sized task (now theta) (now target) × (length (now coeffs) ≡ task .cols) × Ends (fit-of task (now theta) (now target)) stop refits (now coeffs) ⌝ }
+    ensures { λ r. ⌜ r ≡ report-of (fit-of task (now (theta .entry)) (now (target .entry))) ⌝ }
+{
+    let setup = task.setup;
+    let kept = support_of(coeffs, setup);
+    let error = squared_error(theta, target, task.rows, task.cols, kept, coeffs);
+    Report {
+        stop,
+        refits,
+        kept,
+        error,
+    }
 }
 
 // The fit of a task: total, and what all public fits are.
@@ -102,8 +127,10 @@ pub fn fit(
     ) {
         Answer::Done => {
             let watched = fit_ready(task, theta, target, Term(0), coeffs, workspace);
-            let report = watched.report;
-            Fitted::Fit(report)
+            let stop = watched.stop;
+            let refits = watched.refits;
+            let reported = report(task, theta, target, stop, refits, coeffs);
+            Fitted::Fit(reported)
         }
         Answer::Refused(w) => Fitted::Refused(w),
     }

@@ -20,11 +20,11 @@ use Rattle.rule.specs.declared.Report.{Report}
 use Rattle.rule.specs.declared.Fitted.{Fitted}
 use Rattle.rule.specs.declared.Fitted.the-variants as F
 use Rattle.table.specs.Solvers.{three}
-use Rattle.table.specs.Fits.{fits, half, theta1, target1}
+use Rattle.table.specs.Fits.{fits, half, sixteenth, theta1, target1}
 
--- Settled, 1 refit, word 1
+-- Settled, 1 refit, word 1, error 1/16
 abbrev pub settled : Report
-settled = record { stop = Settled; refits = 1; kept = record { 0 = 1 } }
+settled = record { stop = Settled; refits = 1; kept = record { 0 = 1 }; error = sixteenth }
 
 -- what F1 asks for, within any limit of rounds
 abbrev pub task1 : ℕ → Task

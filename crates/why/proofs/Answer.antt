@@ -9,11 +9,11 @@ use Rattle.refusal.specs.declared.Answer.{Answer}
 use Rattle.refusal.specs.declared.Answer.the-variants as A
 use Rattle.refusal.specs.declared.Refusal.{Refusal}
 use Rattle.rule.specs.declared.Task.{Task}
-use Rattle.rule.specs.declared.Report.{Report}
+use Rattle.rule.specs.declared.Stop.{Stop}
 use Rattle.rule.specs.declared.Drop.{Drop}
 use Rattle.rule.specs.Fits.{keeps, problem, fit-by, problem-of, fit-of}
 use Rattle.rule.specs.Sizes.{task-need}
-use Rattle.strlsq.specs.Reports.{Reports, Saw}
+use Rattle.strlsq.specs.Ends.{Ends, Saw}
 use Rattle.why.specs.declared.Cause.{Cause}
 use Rattle.why.specs.declared.Caused.the-variants as C
 use Rattle.why.specs.Cause.{caused, cause, cause-of}
@@ -22,11 +22,11 @@ use Rattle.why.specs.Calls.{WhyCall}
 
 module _ (task : Task) (theta target : List Float) (j : ℕ) where
   -- what the fit saw of the term, and how it ended, make the cause
-  pub cause-found : {r : Report} {drop : Drop} {last : Float} {cs : List Float} → Reports (fit-of task theta target) r cs
+  pub cause-found : {stop : Stop} {refits : ℕ} {drop : Drop} {last : Float} {cs : List Float} → Ends (fit-of task theta target) stop refits cs
       → Saw (problem-of task theta target) (task .setup .«max_iter») j drop last
-      → caused (keeps (task .setup) 0) drop (r .stop) (r .refits) last ≡ cause-of task theta target j
+      → caused (keeps (task .setup) 0) drop stop refits last ≡ cause-of task theta target j
   unfolding cause fit-by problem keeps
-  cause-found f s = rw (s .drops, s .value, f .report) refl
+  cause-found f s = rw (s .drops, s .value, f .stop, f .refits) refl
 
   -- a refusal leaves all unchanged
   pub why-refused : (a : Answer) (w : Refusal) (cs ws : List Float) → a ≡ why-sizes task j (length theta) (length target) (length cs) (length ws) → a ≡ A.Refused w

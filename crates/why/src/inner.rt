@@ -102,10 +102,9 @@ fn caused(drop: Drop, stop: Stop, refits: usize, c: f64, setup: Setup) -> Cause
 
 // The cause of the term that a fit watched.
 pub fn cause_of(watched: Watched, setup: Setup) -> Cause
-    ensures { λ r. ⌜ r ≡ caused (keeps setup 0) (watched .drop) (watched .report .stop) (watched .report .refits) (watched .last) ⌝ }
+    ensures { λ r. ⌜ r ≡ caused (keeps setup 0) (watched .drop) (watched .stop) (watched .refits) (watched .last) ⌝ }
 {
     let drop = watched.drop;
-    let report = watched.report;
-    let stop = report.stop;
-    caused(drop, stop, report.refits, watched.last, setup)
+    let stop = watched.stop;
+    caused(drop, stop, watched.refits, watched.last, setup)
 }

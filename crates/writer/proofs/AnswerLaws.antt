@@ -23,13 +23,13 @@ unfolding refusal-line
 refusal-written w e f g = written-then (omega arith) f (rw e at g)
 
 -- the pieces of a report's line
-pub report-written : {code count term m k l r : ℕ} {was mid most end out : List ℕ} (report : Report)
-    → code ≡ stop-code (report .stop) → count ≡ report .refits → term ≡ stop-term (report .stop)
-    → Written 0 (digits 2 code) was mid m → Written m (digits 4 count) mid most k → Written k (digits 16 (report .kept .0)) most end l → Written l (line 2 term) end out r
+pub report-written : {code count term error m k l n r : ℕ} {was mid most last end out : List ℕ} (report : Report)
+    → code ≡ stop-code (report .stop) → count ≡ report .refits → term ≡ stop-term (report .stop) → error ≡ bits (report .error)
+    → Written 0 (digits 2 code) was mid m → Written m (digits 4 count) mid most k → Written k (digits 16 (report .kept .0)) most last l → Written l (digits 2 term) last end n → Written n (line 16 error) end out r
     → Written 0 (report-line report) was out r
 unfolding report-line
-report-written report e e' e'' f g h i =
-    written-then (omega arith) (written-then (omega arith) (written-then (omega arith) (rw e at f) (rw e' at g)) h) (rw e'' at i)
+report-written report e e' e'' e''' f g h i j =
+    written-then (omega arith) (written-then (omega arith) (written-then (omega arith) (written-then (omega arith) (rw e at f) (rw e' at g)) h) (rw e'' at i)) (rw e''' at j)
 
 -- the lines of one coefficient
 one-line : (x : Float) → coefficient-lines (x ∷ []) ≡ line 16 (bits x)

@@ -12,13 +12,14 @@ use Rattle.rule.specs.declared.Report.{Report}
 unfoldable pub refusal-line : Refusal → List ℕ
 refusal-line w = digits 2 0xff ++ line 2 (number w)
 
--- stop (2), refits (4), kept word (16), refused term (2)
+-- stop (2), refits (4), kept word (16), refused term (2), squared error (16)
 unfoldable pub report-line : Report → List ℕ
-report-line r = digits 2 (stop-code (r .stop)) ++ digits 4 (r .refits) ++ digits 16 (r .kept .0) ++ line 2 (stop-term (r .stop))
+report-line r =
+    digits 2 (stop-code (r .stop)) ++ digits 4 (r .refits) ++ digits 16 (r .kept .0) ++ digits 2 (stop-term (r .stop)) ++ line 16 (bits (r .error))
 
 -- its bytes, with the newline
 abbrev pub report-bytes : ℕ
-report-bytes = 2 + 4 + 16 + 2 + 1
+report-bytes = 2 + 4 + 16 + 2 + 16 + 1
 
 -- a line of 16 digits for each coefficient
 unfoldable pub coefficient-lines : List Float → List ℕ

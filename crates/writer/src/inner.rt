@@ -10,7 +10,7 @@ use refusal::Refusal;
 use rule::Report;
 
 // The bytes of a report's line, and of a coefficient's.
-pub const REPORT_BYTES: usize = 2 + 4 + 16 + 2 + 1;
+pub const REPORT_BYTES: usize = 2 + 4 + 16 + 2 + 16 + 1;
 
 pub const COEFFICIENT_BYTES: usize = 16 + 1;
 
@@ -23,7 +23,7 @@ pub fn write_refusal(w: Refusal, out: &mut [u8]) -> usize
     hex::inner::write_line(refusal::number(w), 2, out, a)
 }
 
-// Stop, refits, kept word and refused term.
+// Stop, refits, kept word, refused term and squared error.
 fn write_status(report: Report, out: &mut [u8]) -> usize
     requires { ⌜ report-bytes ≤ length (now out) ⌝ }
     ensures { λ r. ⌜ Written 0 (report-line report) (now (out .entry)) (now (out .exit)) r ⌝ }
@@ -33,7 +33,8 @@ fn write_status(report: Report, out: &mut [u8]) -> usize
     let a = hex::inner::write_hex(rule::stop_code(stop), 2, out, 0);
     let b = hex::inner::write_hex(wide(report.refits), 4, out, a);
     let c = hex::inner::write_hex(kept.0, 16, out, b);
-    hex::inner::write_line(wide(rule::stop_term(stop)), 2, out, c)
+    let d = hex::inner::write_hex(wide(rule::stop_term(stop)), 2, out, c);
+    hex::inner::write_line(hex::inner::bits(report.error), 16, out, d)
 }
 
 // A line per coefficient, from `at` on.

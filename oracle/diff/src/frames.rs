@@ -26,7 +26,7 @@ pub const WHY: Responder = Responder {
 };
 
 /// Bytes past the room that no call may touch: more than a line of an answer, which a wilful fault writes there.
-const GUARD: usize = 32;
+const GUARD: usize = 48;
 const GUARD_BYTE: u8 = 0xa5;
 
 impl Responder {

@@ -114,7 +114,8 @@ mod tests {
     use super::*;
     use crate::cause::Cause;
     use crate::exchange::{FITBENCH, WHY};
-    use crate::fit::Stop;
+    use crate::fit::{Fit, Stop, fit};
+    use crate::frames::read;
     use crate::problem::Solver;
     use crate::refusal::Refusal::{self, *};
 
@@ -148,6 +149,68 @@ mod tests {
         let causes: Vec<(u64, String)> = (0..).zip(names).collect();
         let refusals = [Columns, Rows, Rounds, Threshold, MalformedFrame];
         all_met(&histogram, &causes, &refusals);
+    }
+
+    /// Does a test hold of a reading and its coefficient, at a term that is kept, or at one that is not?
+    fn at_some(p: &Problem, fit: &Fit, kept: bool, test: fn(f64, f64) -> bool) -> bool {
+        let terms = (0..p.cols).filter(|j| (fit.report.kept >> j & 1 == 1) == kept);
+        let mut places = terms.flat_map(|j| (0..p.rows).map(move |row| (row, j)));
+        places.any(|(row, j)| test(p.at(row, j), fit.coeffs[j]))
+    }
+
+    /// The error is a number though the test holds of a reading and its coefficient at a term that is not kept.
+    fn a_number_though(p: &Problem, fit: &Fit, test: fn(f64, f64) -> bool) -> bool {
+        fit.report.error.is_finite() && at_some(p, fit, false, test)
+    }
+
+    /// It ended so, and the target is not all zeros.
+    fn ended(fit: &Fit, stop: Stop) -> bool {
+        fit.report.stop == stop && fit.report.error > 0.0
+    }
+
+    /// Where a report's error may go wrong, and whether a fit is there.
+    type Edge = (&'static str, fn(&Problem, &Fit) -> bool);
+
+    const EDGES: [Edge; 10] = [
+        ("no rows", |p, _| p.rows == 0),
+        ("no columns", |p, fit| {
+            p.cols == 0 && ended(fit, Stop::NoData)
+        }),
+        ("first refused", |_, fit| ended(fit, Stop::FirstRefused)),
+        ("refit refused", |_, fit| ended(fit, Stop::RefitRefused)),
+        ("nothing kept", |_, fit| {
+            fit.report.kept == 0 && ended(fit, Stop::Empty)
+        }),
+        ("kept zero", |p, fit| {
+            at_some(p, fit, true, |_, c| c == 0.0) && fit.report.error.is_finite()
+        }),
+        ("kept zero times infinity", |p, fit| {
+            at_some(p, fit, true, |x, c| x.is_infinite() && c == 0.0)
+        }),
+        ("broken, not kept", |p, fit| {
+            a_number_though(p, fit, |x, _| !x.is_finite())
+        }),
+        ("NaN left", |p, fit| {
+            a_number_though(p, fit, |_, c| c.is_nan())
+        }),
+        ("infinite", |_, fit| fit.report.error == f64::INFINITY),
+    ];
+
+    #[test]
+    fn every_edge_of_the_error_is_met() {
+        let mut histogram = Histogram::default();
+        for p in (0..20_000).filter_map(|index| read(&input(1, index).input).ok()) {
+            let fit = fit(&p);
+            for (name, _) in EDGES.iter().filter(|edge| edge.1(&p, &fit)) {
+                histogram.count(&format!("{} {name}", p.solver.name()));
+            }
+        }
+        let solvers = Solver::ALL.iter();
+        let names =
+            solvers.flat_map(|solver| EDGES.map(|(name, _)| format!("{} {name}", solver.name())));
+        for name in names {
+            assert!(histogram.of(&name) > 5, "{name}\n{histogram}");
+        }
     }
 
     #[test]

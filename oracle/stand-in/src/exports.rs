@@ -346,12 +346,16 @@ unsafe fn fit(
     coeffs: &mut [f64],
     workspace: &mut [f64],
     report: *mut [u64; 4],
+    error: *mut [f64; 1],
 ) -> u64 {
     let needed = needed_by(fit.by, fit.rows, fit.cols);
     let sizes = fit_sizes(&fit, coeffs, workspace);
     if sizes.first() != 0 {
         if fault::is(Fault::ReportWrittenWhenRefused) {
             unsafe { *report = [0; 4] };
+        }
+        if fault::is(Fault::ErrorWrittenWhenRefused) {
+            unsafe { *error = [0.0] };
         }
         return refused(sizes.first(), coeffs, workspace);
     }
@@ -361,7 +365,7 @@ unsafe fn fit(
     let used = needed.min(workspace.len());
     workspace[..used].fill(7.0);
     let before = coeffs.to_vec();
-    let said = fit.run(coeffs);
+    let (said, left) = fit.run(coeffs);
     if fault::is(Fault::AlwaysZeros) {
         coeffs.fill(0.0);
     }
@@ -369,6 +373,9 @@ unsafe fn fit(
         coeffs.copy_from_slice(&before);
     }
     unsafe { *report = said };
+    if !fault::is(Fault::ErrorNotWritten) {
+        unsafe { *error = [left] };
+    }
     let forgot = fault::is(Fault::WorkspaceNotClearedWithoutData) && said[0] == 0
         || fault::is(Fault::WorkspaceNotClearedAtFirstRefused) && said[0] == 1;
     if !forgot {
@@ -395,6 +402,7 @@ macro_rules! fits {
             workspace: *mut f64,
             workspace_len: usize,
             report: *mut [u64; 4],
+            error: *mut [f64; 1],
         ) -> u64 {
             unsafe {
                 let problem = Fit {
@@ -412,6 +420,7 @@ macro_rules! fits {
                     part_mut(coeffs, coeffs_len),
                     part_mut(workspace, workspace_len),
                     report,
+                    error,
                 )
             }
         }
@@ -454,10 +463,10 @@ pub extern "C" fn dapmotar_strlsq_marquardt_workspace(n_rows: usize, n_cols: usi
 pub unsafe extern "C" fn dapmotar_respond(
     input: *const u8,
     input_len: usize,
-    answer: *mut [u8; 297],
+    answer: *mut [u8; 313],
 ) -> usize {
     let text = crate::frames::respond(unsafe { part(input, input_len) });
-    // Not into an array of 297: one of the faults answers at greater length.
+    // Not into an array of 313: one of the faults answers at greater length.
     unsafe { answer.cast::<u8>().copy_from(text.as_ptr(), text.len()) };
     text.len()
 }

@@ -178,6 +178,23 @@ faults! {
     RefusesAll
     AlwaysZeros
     WritesNothing
+    // The leftover error.
+    ErrorOfAllTerms
+    ErrorCountsNan
+    ErrorSkipsZeros
+    ErrorColumnByPlace
+    ErrorCoefficientByPlace
+    ErrorTermsFromLast
+    ErrorProductsInTurn
+    ErrorFused
+    ErrorByFirstTargets
+    ErrorRowsFromLast
+    ErrorPagesSummedApart
+    ErrorFromMinusZero
+    ErrorZeroWhenRefused
+    ErrorZeroWithoutData
+    ErrorWrittenWhenRefused
+    ErrorNotWritten
     // The frames.
     FrameLowDigitFirst
     FrameRowsBeforeColumns
@@ -189,6 +206,9 @@ faults! {
     FrameTermMissing
     FrameTermDecimal
     FrameTermBeforeKept
+    FrameErrorMissing
+    FrameErrorBeforeTerm
+    FrameErrorNanOtherBits
     FrameUpperAccepted
     FrameCrlfAccepted
     FrameTailAccepted

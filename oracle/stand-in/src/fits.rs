@@ -113,12 +113,14 @@ impl Kept {
 }
 
 impl Fit<'_> {
-    /// The coefficients into their slice, and the report: stop, refits, kept word, refused term.
-    pub fn run(&self, coeffs: &mut [f64]) -> [u64; 4] {
-        self.run_seen(coeffs, &mut Seen::default())
+    /// The coefficients into their slice, and the report: stop, refits, kept word, refused term, and the error.
+    pub fn run(&self, coeffs: &mut [f64]) -> ([u64; 4], f64) {
+        let said = self.run_seen(coeffs, &mut Seen::default());
+        let [stop, _, kept, _] = said;
+        (said, self.error(stop, kept, coeffs))
     }
 
-    /// The same, and what it saw.
+    /// The same without the error, and what it saw.
     pub fn run_seen(&self, coeffs: &mut [f64], seen: &mut Seen) -> [u64; 4] {
         if !fault::is(Fault::OldValuesStay) {
             coeffs.fill(0.0);

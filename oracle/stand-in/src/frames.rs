@@ -58,7 +58,7 @@ impl Problem {
         }
         let mut text = String::new();
         if fault::is(Fault::WhyFrameReportFirst) {
-            let [stop, refits, ..] = self.fit().run(&mut vec![0.0; self.cols]);
+            let ([stop, refits, ..], _) = self.fit().run(&mut vec![0.0; self.cols]);
             text += &format!("{stop:02x}{refits:04x}\n");
         }
         for (code, refit, value) in self.fit().causes(&mut vec![0.0; self.cols]) {
@@ -79,7 +79,7 @@ impl Problem {
 
     fn answer(&self) -> String {
         let mut coeffs = vec![0.0; self.cols];
-        let [stop, refits, kept, term] = self.fit().run(&mut coeffs);
+        let ([stop, refits, kept, term], error) = self.fit().run(&mut coeffs);
         let kept = if fault::is(Fault::FrameKeptShort) {
             format!("{kept:x}")
         } else {
@@ -92,10 +92,17 @@ impl Problem {
         } else {
             format!("{term:02x}")
         };
-        let first = if fault::is(Fault::FrameTermBeforeKept) {
-            term + &kept
+        let error = if fault::is(Fault::FrameErrorMissing) {
+            String::new()
         } else {
-            kept + &term
+            shown(error, Fault::FrameErrorNanOtherBits)
+        };
+        let first = if fault::is(Fault::FrameTermBeforeKept) {
+            term + &kept + &error
+        } else if fault::is(Fault::FrameErrorBeforeTerm) {
+            kept + &error + &term
+        } else {
+            kept + &term + &error
         };
         let mut text = format!("{stop:02x}{refits:04x}{first}\n");
         for c in coeffs {

@@ -49,7 +49,8 @@ pub const STRLSQ_PAGES: Function = Function {
     make: |rng| {
         let (rows, cols) = (rows_by_pages(rng), rng.between(0, MAX_COLS));
         let problem = kinds::sparse(rng, rows, cols);
-        of(rng, Plan::RIGHT, Solver::Normal, problem)
+        let call = of(rng, Plan::RIGHT, Solver::Normal, problem);
+        with_error(rng, call)
     },
     ..STRLSQ
 };
@@ -69,11 +70,18 @@ pub const SIZE: Size = Size {
 
 fn make(rng: &mut Rng, solver: Solver) -> Call {
     let plan = Plan::new(rng);
-    if plan.is_right() {
+    let call = if plan.is_right() {
         right(rng, plan, solver)
     } else {
         any(rng, plan, solver)
-    }
+    };
+    with_error(rng, call)
+}
+
+/// The error's place, behind the coefficients.
+fn with_error(rng: &mut Rng, mut call: Call) -> Call {
+    call.writes.push(junk(rng, "error", 1));
+    call
 }
 
 /// A problem of exact lengths; the workspace may be short.
@@ -97,10 +105,11 @@ fn several_refits(rng: &mut Rng, solver: Solver) -> Call {
             break problem;
         }
     };
-    of(rng, Plan::RIGHT, solver, problem)
+    let call = of(rng, Plan::RIGHT, solver, problem);
+    with_error(rng, call)
 }
 
-/// The call of a problem; the workspace may be short.
+/// The call of a problem, without the error's place; the workspace may be short.
 pub fn of(rng: &mut Rng, plan: Plan, solver: Solver, problem: Problem) -> Call {
     let sizes = [problem.rows, problem.cols];
     call(
@@ -115,7 +124,7 @@ pub fn of(rng: &mut Rng, plan: Plan, solver: Solver, problem: Problem) -> Call {
     )
 }
 
-/// Any sizes, lengths and limits.
+/// Any sizes, lengths and limits, without the error's place.
 pub fn any(rng: &mut Rng, plan: Plan, solver: Solver) -> Call {
     let (rows, cols) = (plan.size(rng, MAX_ROWS), plan.size(rng, MAX_COLS));
     let theta_len = plan.length(rng, rows.checked_mul(cols));
@@ -168,7 +177,9 @@ fn library(call: &mut Call, export: raw::Fit) -> u64 {
     let [theta, target] = call.reads.as_mut_slice() else {
         unreachable!("two are read")
     };
-    let coeffs = &mut call.writes[0];
+    let [coeffs, error] = call.writes.as_mut_slice() else {
+        unreachable!("two are written")
+    };
     let (workspace, _) = call.workspace.as_mut().expect("it has one");
     unsafe {
         export(
@@ -186,6 +197,7 @@ fn library(call: &mut Call, export: raw::Fit) -> u64 {
             workspace.ptr(),
             workspace.len(),
             &mut call.report,
+            error.ptr().cast(),
         )
     }
 }
@@ -215,6 +227,7 @@ fn run_model(call: &mut Call, solver: Solver) -> u64 {
     match answer {
         Ok(report) => {
             call.report = [report.stop.code(), report.refits, report.kept, report.term];
+            call.writes[1].numbers_mut()[0] = report.error;
             0
         }
         Err(refusal) => refusal.number(),

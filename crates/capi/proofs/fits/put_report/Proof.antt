@@ -1,4 +1,4 @@
--- `put_report` writes the four numbers of a fit's report, and nothing after a refusal. Assumes nothing.
+-- `put_report` writes the four numbers of a fit's report and its error, and nothing after a refusal. Assumes nothing.
 use borrow.Author.Needs.{needs}
 use Rattle.capi.proofs.fits.put_report.Statement.{statement}
 use Rattle.capi.proofs.fits.put_report.Tie as tie
@@ -17,9 +17,9 @@ enum-told c = search needs
 
 returns : tie.Need-returns
 returns c =
-    let told = c .before in
+    let told = c .before .before in
     let fit = told .before .before .before .before .answer in
-    rw (fit .given .1, told .before .stop-code .ensures, told .stop-term .ensures)
+    (rw (fit .given .1, told .before .stop-code .ensures, told .stop-term .ensures), rw (fit .given .1))
 
 returns-2 : tie.Need-returns-2
 returns-2 c = search needs

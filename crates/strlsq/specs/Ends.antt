@@ -6,13 +6,13 @@ use lib.Ieee.{Float}
 use Rattle.steps.specs.Num.{at}
 use Rattle.rule.specs.Rule.{Problem, Fit, rounds, coeffs-of}
 use Rattle.rule.specs.Dropped.{dropped}
-use Rattle.rule.specs.Calls.{report-of}
-use Rattle.rule.specs.declared.Report.{Report}
+use Rattle.rule.specs.declared.Stop.{Stop}
 use Rattle.rule.specs.declared.Drop.{Drop}
 
--- the report and the coefficients of a fit
-pub record Reports (f : Fit) (r : Report) (cs : List Float) : Type 0 where
-  pub report : r ≡ report-of f
+-- how a fit ends: its stop, its refits and its coefficients
+pub record Ends (f : Fit) (t : Stop) (r : ℕ) (cs : List Float) : Type 0 where
+  pub stop : t ≡ f .stop
+  pub refits : r ≡ f .refits
   pub coeffs : cs ≡ f .coeffs
 
 -- what a fit within a limit of rounds saw of the term j: the look that dropped it, and its last coefficient before the last pass
