@@ -1,12 +1,24 @@
 -- A walk over the listed terms of a row, and over the rows: what the sums are before the first, and after more. Assumes nothing.
 use mathlib.Core.Path.{_≡_, sym, ap, ap₂, _∙_}
+use mathlib.Core.List.{List}
 use Prim.Native.Nat.{ℕ, _+_}
 use native.Mathlib.Nat.{add-zero}
 use native.Mathlib.Omega.{arith}
+use lib.ListN.{getD}
 use lib.Ieee.{Float}
-use Rattle.steps.specs.Num.{plus, less, times, +zero, Entry}
+use Rattle.steps.specs.Num.{plus, less, times, +zero, at, Entry}
 use Rattle.steps.specs.Sums.{sum, sum-none, sum-more, sum-on}
-use Rattle.leftover.specs.Error.{products, leftover, square, squares}
+use Rattle.places.specs.Columns.{listed}
+use Rattle.leftover.specs.Error.{products, leftover, square, squares, listed-coeffs}
+
+-- what stands at the term of a place is what is listed there
+pub entry-listed : (table : List ℕ) (e : Entry) (i p : ℕ) {j : ℕ} {x : Float} → j ≡ getD table p 0 → x ≡ e i j → x ≡ listed table e i p
+unfolding listed
+entry-listed table e i p q r = r ∙ ap (e i) q
+
+pub coeff-listed : (table : List ℕ) (cs : List Float) (p : ℕ) {j : ℕ} {x : Float} → j ≡ getD table p 0 → x ≡ at cs j → x ≡ listed-coeffs table cs p
+unfolding listed-coeffs
+coeff-listed table cs p q r = r ∙ ap (at cs) q
 
 module _ (row cs : ℕ → Float) where
   -- no term yet, and a term more

@@ -35,9 +35,9 @@ error-listed rows n k e t w cs table l q p =
     ∙ squares-cong rows (ones w) _ _ t _ _ (λ i p a b. listed-is n w table l e i p b) (λ p b. ap (at cs) (l .each p b))
 
 -- with no rows it is +0.0
-pub no-rows : (n : ℕ) (e : Entry) (t : ℕ → Float) (w : ℕ) (cs : List Float) → squared-error 0 n e t w cs ≡ +zero
+pub without-rows : (n : ℕ) (e : Entry) (t : ℕ → Float) (w : ℕ) (cs : List Float) → squared-error 0 n e t w cs ≡ +zero
 unfolding squared-error squares
-no-rows n e t w cs = sum-none +zero 0 _
+without-rows n e t w cs = sum-none +zero 0 _
 
 -- with nothing kept the squares of the target, each number less the sum of no products
 pub none-kept : (rows n : ℕ) (e : Entry) (t : ℕ → Float) (cs : List Float) → squared-error rows n e t 0 cs ≡ sum +zero 0 rows (λ i. square (less (t i) +zero))

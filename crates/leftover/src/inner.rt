@@ -86,7 +86,7 @@ fn add_four(
     add_square(g, target[i + 3], d)
 }
 
-// All rows: m times four, then those that are left.
+// The first rows: m times four.
 fn walk_fours(
     theta: &[f64],
     target: &[f64],
@@ -117,6 +117,7 @@ fn walk_fours(
     error
 }
 
+// All rows: by fours, then those that are left.
 fn walk(
     theta: &[f64],
     target: &[f64],

@@ -6,7 +6,7 @@ use lib.Ieee.{Float, binary64, fits}
 use Rattle.steps.specs.Num.{less, +zero, Entry}
 use Rattle.steps.specs.Sums.{sum}
 use Rattle.leftover.specs.Error.{square, squares, squared-error}
-use Rattle.leftover.specs.Laws.{no-rows, none-kept}
+use Rattle.leftover.specs.Laws.{without-rows, none-kept}
 use Rattle.rule.specs.Rule.{Problem, reported, Fit, fit}
 use Rattle.rule.specs.Course.{of-report}
 use Rattle.rule.specs.Fits.{problem, problem-by, fit-by}
@@ -30,7 +30,7 @@ module _ (task : Task) (e : Entry) (t : ℕ → Float) where
 
   -- with no rows +0.0
   pub error-no-rows : task .rows ≡ 0 → f .error ≡ +zero
-  error-no-rows z = error-is ∙ ap (λ (rows : ℕ). squared-error rows (task .cols) e t (f .kept) (f .coeffs)) z ∙ no-rows (task .cols) e t (f .kept) (f .coeffs)
+  error-no-rows z = error-is ∙ ap (λ (rows : ℕ). squared-error rows (task .cols) e t (f .kept) (f .coeffs)) z ∙ without-rows (task .cols) e t (f .kept) (f .coeffs)
 
   -- with nothing kept the target's squares: of each number less the sum of no products
   pub error-none-kept : f .kept ≡ 0 → f .error ≡ sum +zero 0 (task .rows) (λ i. square (less (t i) +zero))

@@ -9,7 +9,7 @@ use denote.Ref.{now}
 use Rattle.steps.specs.Num.{cell}
 use Rattle.places.specs.Columns.{listed}
 use Rattle.leftover.specs.Error.{products, listed-coeffs}
-use Rattle.leftover.proofs.Walks.{products-none, products-more, four-more}
+use Rattle.leftover.proofs.Walks.{entry-listed, coeff-listed, products-none, products-more, four-more}
 use Rattle.leftover.proofs.inner.add_four.Statement.{statement}
 use Rattle.leftover.proofs.inner.add_four.Tie as tie
 
@@ -71,7 +71,6 @@ loop-less : tie.Need-loop-less Inv-loop μ-loop
 loop-less c = omega arith
 
 loop-again : tie.Need-loop-again Inv-loop μ-loop
-unfolding listed listed-coeffs
 loop-again c =
     let at-third = c .before in
     let at-second = at-third .before in
@@ -79,13 +78,14 @@ loop-again c =
     let valued = at-first .before in
     let named = valued .before in
     let turn = named .before .before .loop in
+    let p = turn .p in
     let term = named .term-of .ensures in
-    let value = rw term at (valued .coeff-of .ensures) in (
+    let value = coeff-listed _ _ p term (valued .coeff-of .ensures) in (
       omega arith,
-      products-more _ _ (turn .p) (turn .inv .1) (rw term at (at-first .at-term .ensures)) value,
-      products-more _ _ (turn .p) (turn .inv .2) (rw term at (at-second .at-term2 .ensures)) value,
-      products-more _ _ (turn .p) (turn .inv .3) (rw term at (at-third .at-term3 .ensures)) value,
-      products-more _ _ (turn .p) (turn .inv .4) (rw term at (c .at-term4 .ensures)) value,
+      products-more _ _ p (turn .inv .1) (entry-listed _ _ _ p term (at-first .at-term .ensures)) value,
+      products-more _ _ p (turn .inv .2) (entry-listed _ _ _ p term (at-second .at-term2 .ensures)) value,
+      products-more _ _ p (turn .inv .3) (entry-listed _ _ _ p term (at-third .at-term3 .ensures)) value,
+      products-more _ _ p (turn .inv .4) (entry-listed _ _ _ p term (c .at-term4 .ensures)) value,
     )
 
 mul-add-square : tie.Need-mul-add-square Inv-loop μ-loop

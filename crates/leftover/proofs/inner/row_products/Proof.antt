@@ -5,7 +5,7 @@ use native.Mathlib.Omega.{arith}
 use Rattle.steps.specs.Num.{cell}
 use Rattle.places.specs.Columns.{listed}
 use Rattle.leftover.specs.Error.{products, listed-coeffs}
-use Rattle.leftover.proofs.Walks.{products-none, products-more}
+use Rattle.leftover.proofs.Walks.{coeff-listed, products-none, products-more}
 use Rattle.leftover.proofs.inner.row_products.Statement.{statement}
 use Rattle.leftover.proofs.inner.row_products.Tie as tie
 
@@ -41,11 +41,10 @@ loop-less : tie.Need-loop-less Inv-loop μ-loop
 loop-less c = omega arith
 
 loop-again : tie.Need-loop-again Inv-loop μ-loop
-unfolding listed-coeffs
 loop-again c =
     let named = c .before in
     let turn = named .before .before .before .loop in
-    (omega arith, products-more _ _ (turn .p) (turn .inv .1) (named .before .at-place .ensures) (rw (named .term-of .ensures) at (c .coeff-of .ensures)))
+    (omega arith, products-more _ _ (turn .p) (turn .inv .1) (named .before .at-place .ensures) (coeff-listed _ _ (turn .p) (named .term-of .ensures) (c .coeff-of .ensures)))
 
 returns : tie.Need-returns Inv-loop μ-loop
 returns c =
