@@ -1,6 +1,6 @@
 // How often the memory of theta is brought in, where only a few of its pages are at hand at once: as from slow memory. Linux.
 //   cc -O1 -Iinclude -o target/paging bench/paging.c target/staticlib/libcapi.a && target/paging
-// A page that is not at hand can't be read; reading it brings it in and sends the oldest away. The exit status is 1 unless jtj and jtr bring each page in once, and a fit twice: for its sums, and for its error.
+// A page that is not at hand can't be read; reading it brings it in and sends the oldest away. The exit status is 1 unless jtj and jtr bring each page in once, and a fit twice, for its sums and for its error, or once if it keeps nothing: what is not kept is not read for the error.
 #define _GNU_SOURCE
 #include "dapmotar.h"
 
@@ -62,7 +62,11 @@ int main(void) {
     size_t strlsq = brought, refits = report[1];
     send_all_away(bytes);
     if (dapmotar_strlsq_marquardt(matrix, ROWS * COLS, ROWS, COLS, target, ROWS, 0.25, 1e-6, 10, values, COLS, space, need, report, error)) return 2;
+    size_t marquardt = brought, marquardt_refits = report[1];
+    send_all_away(bytes);
+    if (dapmotar_strlsq(matrix, ROWS * COLS, ROWS, COLS, target, ROWS, 1e9, 1e-6, 10, values, COLS, space, need, report, error)) return 2;
+    size_t empty = brought;
     printf("theta of %d by %d stands in %zu pages, %d at hand at once\n", ROWS, COLS, pages, AT_HAND);
-    printf("jtj brings in %zu, jtr %zu, strlsq with %zu refits %zu, strlsq_marquardt with %zu refits %zu\n", jtj, jtr, refits, strlsq, (size_t)report[1], brought);
-    return jtj != pages || jtr != pages || strlsq != 2 * pages || brought != 2 * pages;
+    printf("jtj brings in %zu, jtr %zu, strlsq with %zu refits %zu, strlsq_marquardt with %zu refits %zu, strlsq that keeps nothing %zu\n", jtj, jtr, refits, strlsq, marquardt_refits, marquardt, empty);
+    return jtj != pages || jtr != pages || strlsq != 2 * pages || marquardt != 2 * pages || report[2] || empty != pages;
 }
