@@ -1,6 +1,7 @@
 // How often the memory of theta is brought in, where only a few of its pages are at hand at once: as from slow memory. Linux.
 //   cc -O1 -Iinclude -o target/paging bench/paging.c target/staticlib/libcapi.a && target/paging
 // A page that is not at hand can't be read; reading it brings it in and sends the oldest away. The exit status is 1 unless jtj and jtr bring each page in once, and a fit twice, for its sums and for its error, or once if it keeps nothing: what is not kept is not read for the error.
+// By columns a row has an entry in as many pages as there are columns, so that many are at hand there; a fit brings each page in once for its sums, and those of its kept columns once more for its error.
 #define _GNU_SOURCE
 #include "dapmotar.h"
 
@@ -11,16 +12,16 @@
 #include <sys/mman.h>
 #include <unistd.h>
 
-enum { ROWS = 4096, COLS = 64, AT_HAND = 8 };
+enum { ROWS = 4096, COLS = 64, AT_HAND = 8, AT_HAND_BY_COLUMNS = COLS };
 
-static unsigned char *theta, *at_hand[AT_HAND];
-static size_t page_size, brought;
+static unsigned char *theta, *at_hand[AT_HAND_BY_COLUMNS];
+static size_t page_size, brought, hand = AT_HAND;
 
 static void bring(int sign, siginfo_t *info, void *unused) {
     (void)sign, (void)unused;
     unsigned char *page = (unsigned char *)((uintptr_t)info->si_addr & ~(uintptr_t)(page_size - 1));
     if (page < theta || page >= theta + ROWS * COLS * sizeof(double)) abort();
-    unsigned char **oldest = &at_hand[brought++ % AT_HAND];
+    unsigned char **oldest = &at_hand[brought++ % hand];
     if (*oldest) mprotect(*oldest, page_size, PROT_NONE);
     mprotect(page, page_size, PROT_READ);
     *oldest = page;
@@ -28,7 +29,7 @@ static void bring(int sign, siginfo_t *info, void *unused) {
 
 static void send_all_away(size_t bytes) {
     mprotect(theta, bytes, PROT_NONE);
-    for (size_t i = 0; i < AT_HAND; i++) at_hand[i] = NULL;
+    for (size_t i = 0; i < AT_HAND_BY_COLUMNS; i++) at_hand[i] = NULL;
     brought = 0;
 }
 
@@ -65,8 +66,26 @@ int main(void) {
     size_t marquardt = brought, marquardt_refits = report[1];
     send_all_away(bytes);
     if (dapmotar_strlsq(matrix, ROWS * COLS, ROWS, COLS, target, ROWS, 1e9, 1e-6, 10, values, COLS, space, need, report, error)) return 2;
-    size_t empty = brought;
+    size_t empty = brought, kept = report[2];
+
+    mprotect(theta, bytes, PROT_READ);
+    for (size_t i = 0; i < ROWS; i++) target[i] = 2 * matrix[i] + matrix[5 * ROWS + i];
+    hand = AT_HAND_BY_COLUMNS;
+    send_all_away(bytes);
+    if (dapmotar_strlsq_by_columns(matrix, ROWS * COLS, ROWS, COLS, target, ROWS, 0.25, 1e-6, 10, values, COLS, space, need, report, error)) return 2;
+    size_t by_columns = brought, kept_by_columns = report[2];
+    send_all_away(bytes);
+    if (dapmotar_strlsq_marquardt_by_columns(matrix, ROWS * COLS, ROWS, COLS, target, ROWS, 0.25, 1e-6, 10, values, COLS, space, need, report, error)) return 2;
+    size_t marquardt_by_columns = brought;
+    send_all_away(bytes);
+    if (dapmotar_strlsq_by_columns(matrix, ROWS * COLS, ROWS, COLS, target, ROWS, 1e9, 1e-6, 10, values, COLS, space, need, report, error)) return 2;
+    size_t empty_by_columns = brought;
+
     printf("theta of %d by %d stands in %zu pages, %d at hand at once\n", ROWS, COLS, pages, AT_HAND);
     printf("jtj brings in %zu, jtr %zu, strlsq with %zu refits %zu, strlsq_marquardt with %zu refits %zu, strlsq that keeps nothing %zu\n", jtj, jtr, refits, strlsq, marquardt_refits, marquardt, empty);
-    return jtj != pages || jtr != pages || strlsq != 2 * pages || marquardt != 2 * pages || report[2] || empty != pages;
+    printf("by columns, %d at hand: strlsq that keeps the word %zx brings in %zu, strlsq_marquardt %zu, strlsq that keeps nothing %zu\n", AT_HAND_BY_COLUMNS, kept_by_columns, by_columns, marquardt_by_columns, empty_by_columns);
+    int by_rows_fails = jtj != pages || jtr != pages || strlsq != 2 * pages || marquardt != 2 * pages || kept || empty != pages;
+    size_t wanted = pages + 2 * pages / COLS; // two columns are kept
+    int by_columns_fails = kept_by_columns != 0x21 || by_columns != wanted || marquardt_by_columns != wanted || report[2] || empty_by_columns != pages;
+    return by_rows_fails || by_columns_fails;
 }

@@ -9,7 +9,8 @@
 
 enum { STACK = 1 << 20, ROWS = 4096, COLS = 64, PAINT = 0xa5 };
 
-static const char *const names[] = {"nothing", "jtj", "jtr", "cholesky", "lu", "normal", "qr", "least", "strlsq", "strlsq_qr", "respond", "sqrt", "invert", "strlsq_marquardt", "why", "respond_why"};
+static const char *const names[] = {"nothing", "jtj", "jtr", "cholesky", "lu", "normal", "qr", "least", "strlsq", "strlsq_qr", "respond", "sqrt", "invert", "strlsq_marquardt", "why", "respond_why", "strlsq_by_columns", "strlsq_qr_by_columns", "strlsq_marquardt_by_columns", "why by columns"};
+enum { BY_COLUMNS = 16 }; // the first of those by columns
 static unsigned char *stack, input[40000], answer[DAPMOTAR_ANSWER], causes[DAPMOTAR_WHY_ANSWER];
 static size_t which, input_len;
 static double *theta, *target, *square, *values, *space;
@@ -33,6 +34,10 @@ static void *call(void *unused) {
     case 13: dapmotar_strlsq_marquardt(theta, ROWS * COLS, ROWS, COLS, target, ROWS, 0.25, 1e-6, 10, values, COLS, space, dapmotar_strlsq_marquardt_workspace(ROWS, COLS), report, error); break;
     case 14: dapmotar_why(2, theta, ROWS * COLS, ROWS, COLS, target, ROWS, 0.25, 1e-6, 10, 1, values, COLS, space, dapmotar_strlsq_qr_workspace(ROWS, COLS), cause, value); break;
     case 15: dapmotar_respond_why(input, input_len, causes); break;
+    case 16: dapmotar_strlsq_by_columns(theta, ROWS * COLS, ROWS, COLS, target, ROWS, 0.25, 1e-6, 10, values, COLS, space, dapmotar_strlsq_workspace(ROWS, COLS), report, error); break;
+    case 17: dapmotar_strlsq_qr_by_columns(theta, ROWS * COLS, ROWS, COLS, target, ROWS, 0.25, 1e-6, 10, values, COLS, space, dapmotar_strlsq_qr_workspace(ROWS, COLS), report, error); break;
+    case 18: dapmotar_strlsq_marquardt_by_columns(theta, ROWS * COLS, ROWS, COLS, target, ROWS, 0.25, 1e-6, 10, values, COLS, space, dapmotar_strlsq_marquardt_workspace(ROWS, COLS), report, error); break;
+    case 19: dapmotar_why(0x12, theta, ROWS * COLS, ROWS, COLS, target, ROWS, 0.25, 1e-6, 10, 1, values, COLS, space, dapmotar_strlsq_qr_workspace(ROWS, COLS), cause, value); break;
     }
     return unused;
 }
@@ -59,13 +64,14 @@ int main(int argc, char **argv) {
     values = malloc(COLS * sizeof(double));
     space = malloc(2 * (ROWS + COLS) * (COLS + 4) * sizeof(double));
     for (size_t i = 0; i < ROWS * COLS; i++) theta[i] = (rand() % 2000 - 1000) / 500.0;
-    for (size_t i = 0; i < ROWS; i++) target[i] = 2 * theta[i * COLS] + theta[i * COLS + 5];
     if (posix_memalign((void **)&stack, 4096, STACK) != 0) return 2;
     used(); // the first thread also binds what later ones find bound
     long bare = used();
     for (which = 1; which < sizeof names / sizeof names[0]; which++) {
+        size_t row = which < BY_COLUMNS ? COLS : 1, column = which < BY_COLUMNS ? 1 : ROWS; // the strides of theta
+        for (size_t i = 0; i < ROWS; i++) target[i] = 2 * theta[i * row] + theta[i * row + 5 * column];
         for (size_t i = 0; i < COLS * COLS; i++) square[i] = i % (COLS + 1) ? 0.0 : 1.0; // which no solver refuses
-        printf("%-16s %6ld bytes\n", names[which], used() - bare);
+        printf("%-27s %6ld bytes\n", names[which], used() - bare);
     }
     return 0;
 }

@@ -7,7 +7,8 @@
  * Slices.      A slice is a pointer and its length in numbers. A null pointer with length 0 is an empty slice.
  * Arrays       of a fixed length, report[4], error[1], column[1], cause[2], value[1], answer[..], are never null.
  * Overlap.     What is written, slice or array, must not overlap anything else that is read or written.
- * Matrices     stand by rows: entry (i, j) of a matrix of n columns is number i*n + j.
+ * Matrices     stand by rows: entry (i, j) of a matrix of n columns is number i*n + j. In the calls .._by_columns theta
+ *              stands by columns: entry (i, j) of a theta of m rows is number j*m + i.
  * Numbers      may have any bits: infinities, NaN, zeros of both signs. Each operation rounds once.
  * NaN.         A NaN from dapmotar_sqrt is 7ff8000000000000, always; dapmotar_abs hands a NaN on with its bits. Of any
  *              other computed NaN the bits are not promised.
@@ -186,10 +187,28 @@ uint64_t dapmotar_strlsq_marquardt(const double *theta, size_t theta_len, size_t
                                    size_t workspace_len, uint64_t report[4], double error[1]);
 
 /*
- * The numbers of workspace that a fit needs, with r rows and c columns: 3*c*c + 2*c for the normal equations (at any r),
- * 2*(r+c)*c + 3*(r+c) + 3*c for QR. 0 says that none is needed (no columns; for QR no rows either), or that the sizes
- * are beyond the limits: then the fit is refused, 1 or 2, whatever workspace it gets. Either way a null pointer with
- * length 0 will do.
+ * The three fits of a theta that stands by columns, one after another: entry (i, j) is number j * n_rows + i. theta isn't
+ * copied beyond the workspace. Parameters, refusals, workspace and answers are those of the call by rows, and for every
+ * matrix both give the same report, error and coefficients, any NaN for any NaN.
+ */
+uint64_t dapmotar_strlsq_by_columns(const double *theta, size_t theta_len, size_t n_rows, size_t n_cols,
+                                    const double *target, size_t target_len, double threshold, double lambda,
+                                    size_t max_iter, double *coeffs, size_t coeffs_len, double *workspace,
+                                    size_t workspace_len, uint64_t report[4], double error[1]);
+uint64_t dapmotar_strlsq_qr_by_columns(const double *theta, size_t theta_len, size_t n_rows, size_t n_cols,
+                                       const double *target, size_t target_len, double threshold, double lambda,
+                                       size_t max_iter, double *coeffs, size_t coeffs_len, double *workspace,
+                                       size_t workspace_len, uint64_t report[4], double error[1]);
+uint64_t dapmotar_strlsq_marquardt_by_columns(const double *theta, size_t theta_len, size_t n_rows, size_t n_cols,
+                                              const double *target, size_t target_len, double threshold, double lambda,
+                                              size_t max_iter, double *coeffs, size_t coeffs_len, double *workspace,
+                                              size_t workspace_len, uint64_t report[4], double error[1]);
+
+/*
+ * The numbers of workspace that a fit needs in either layout, with r rows and c columns: 3*c*c + 2*c for the normal
+ * equations (at any r), 2*(r+c)*c + 3*(r+c) + 3*c for QR. 0 says that none is needed (no columns; for QR no rows
+ * either), or that the sizes are beyond the limits: then the fit is refused, 1 or 2, whatever workspace it gets. Either
+ * way a null pointer with length 0 will do.
  */
 size_t dapmotar_strlsq_workspace(size_t n_rows, size_t n_cols);
 size_t dapmotar_strlsq_qr_workspace(size_t n_rows, size_t n_cols);
@@ -197,9 +216,12 @@ size_t dapmotar_strlsq_marquardt_workspace(size_t n_rows, size_t n_cols);
 
 /* The fits by their codes, as in a header. */
 enum {
-    DAPMOTAR_SOLVER_NORMAL = 1,   /* dapmotar_strlsq */
-    DAPMOTAR_SOLVER_QR = 2,       /* dapmotar_strlsq_qr */
-    DAPMOTAR_SOLVER_MARQUARDT = 3 /* dapmotar_strlsq_marquardt */
+    DAPMOTAR_SOLVER_NORMAL = 0x01,              /* dapmotar_strlsq */
+    DAPMOTAR_SOLVER_QR = 0x02,                  /* dapmotar_strlsq_qr */
+    DAPMOTAR_SOLVER_MARQUARDT = 0x03,           /* dapmotar_strlsq_marquardt */
+    DAPMOTAR_SOLVER_NORMAL_BY_COLUMNS = 0x11,   /* dapmotar_strlsq_by_columns */
+    DAPMOTAR_SOLVER_QR_BY_COLUMNS = 0x12,       /* dapmotar_strlsq_qr_by_columns */
+    DAPMOTAR_SOLVER_MARQUARDT_BY_COLUMNS = 0x13 /* dapmotar_strlsq_marquardt_by_columns */
 };
 
 /* What became of a term: the first number of its cause. */
@@ -215,9 +237,9 @@ enum {
 };
 
 /*
- * Why was this term dropped? Runs the fit of that code, leaves coeffs and workspace as it does, and says what became of
- * one term, a column of theta. cause: its code and a refit number, counted from 1; value: a coefficient. Each is zero
- * (value +0.0) where the cause has none. Both are written only if the call is accepted.
+ * Why was this term dropped? Runs the fit of that code, on a theta in its layout, leaves coeffs and workspace as it
+ * does, and says what became of one term, a column of theta. cause: its code and a refit number, counted from 1; value:
+ * a coefficient. Each is zero (value +0.0) where the cause has none. Both are written only if the call is accepted.
  * Workspace: as the fit's.
  * Refusals: 11, 1, 2, 3, 12, 13, 4, 5, 6, 7.
  */

@@ -38,15 +38,15 @@ const SETUP: Setup = Setup {
     max_iter: MAX_ITER,
 };
 
-/// A fit, by the port's call with its workspace and by the Rust's.
+/// A fit, by the port's call with its workspace, on theta in that call's layout, and by the Rust's.
 macro_rules! fit {
-    ($name:literal, $port:path, $workspace:path, $rust:path) => {
+    ($name:literal, $theta:ident, $port:path, $workspace:path, $rust:path) => {
         Call {
             name: $name,
             out: |d| d.cols,
             workspace: |d| $workspace(d.rows, d.cols),
             port: |d, Room { out, workspace }| {
-                $port(&d.theta, d.rows, d.cols, &d.target, SETUP, out, workspace)
+                $port(&d.$theta, d.rows, d.cols, &d.target, SETUP, out, workspace)
                     .map(|_| ())
                     .expect("accepted")
             },
@@ -61,10 +61,61 @@ macro_rules! fit {
 
 pub const STRLSQ: Call = fit!(
     "strlsq",
+    theta,
     dapmotar::strlsq,
     dapmotar::strlsq_workspace,
     strlsq::strlsq
 );
+
+const STRLSQ_QR: Call = fit!(
+    "strlsq_qr",
+    theta,
+    dapmotar::strlsq_qr,
+    dapmotar::strlsq_qr_workspace,
+    strlsq::strlsq_qr
+);
+
+const STRLSQ_MARQUARDT: Call = fit!(
+    "strlsq_marquardt",
+    theta,
+    dapmotar::strlsq_marquardt,
+    dapmotar::strlsq_marquardt_workspace,
+    strlsq_marquardt::strlsq
+);
+
+/// Each fit by columns, and the same by rows.
+pub const LAYOUTS: [(Call, Call); 3] = [
+    (
+        fit!(
+            "strlsq_by_columns",
+            by_columns,
+            dapmotar::strlsq_by_columns,
+            dapmotar::strlsq_workspace,
+            strlsq::strlsq
+        ),
+        STRLSQ,
+    ),
+    (
+        fit!(
+            "strlsq_qr_by_columns",
+            by_columns,
+            dapmotar::strlsq_qr_by_columns,
+            dapmotar::strlsq_qr_workspace,
+            strlsq::strlsq_qr
+        ),
+        STRLSQ_QR,
+    ),
+    (
+        fit!(
+            "strlsq_marquardt_by_columns",
+            by_columns,
+            dapmotar::strlsq_marquardt_by_columns,
+            dapmotar::strlsq_marquardt_workspace,
+            strlsq_marquardt::strlsq
+        ),
+        STRLSQ_MARQUARDT,
+    ),
+];
 
 /// The port's `strlsq`, and how often it refitted.
 pub fn refits(d: &Data, Room { out, workspace }: &mut Room) -> u64 {
@@ -138,16 +189,6 @@ pub const ALL: [Call; 9] = [
         },
     },
     STRLSQ,
-    fit!(
-        "strlsq_qr",
-        dapmotar::strlsq_qr,
-        dapmotar::strlsq_qr_workspace,
-        strlsq::strlsq_qr
-    ),
-    fit!(
-        "strlsq_marquardt",
-        dapmotar::strlsq_marquardt,
-        dapmotar::strlsq_marquardt_workspace,
-        strlsq_marquardt::strlsq
-    ),
+    STRLSQ_QR,
+    STRLSQ_MARQUARDT,
 ];

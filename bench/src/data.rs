@@ -1,12 +1,15 @@
 //! What is measured on: readings of a sparse truth, with noise, from a fixed seed.
 
 use oracle::linalg;
+use oracle::problem::transposed;
 use oracle::rng::Rng;
 
 pub struct Data {
     pub rows: usize,
     pub cols: usize,
     pub theta: Vec<f64>,
+    /// Theta by columns.
+    pub by_columns: Vec<f64>,
     pub target: Vec<f64>,
     /// The sums of the normal equations, for the solver alone.
     pub sums: Vec<f64>,
@@ -71,6 +74,7 @@ impl Data {
         Data {
             rows,
             cols,
+            by_columns: transposed(&theta, rows, cols),
             theta,
             target,
             sums,

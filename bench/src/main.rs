@@ -1,4 +1,4 @@
-//! The port's time against the published Rust's, in one run, as a markdown table.
+//! The port's time against the published Rust's, and its time by columns against that by rows, as markdown tables.
 
 mod calls;
 mod data;
@@ -44,13 +44,19 @@ fn main() -> ExitCode {
         .into_iter()
         .flat_map(|(n_rows, n_cols)| each_call(n_rows, n_cols))
         .collect();
-    let text = table::text(&rows, &small);
+    let layouts: Vec<table::Row> = SHAPES
+        .into_iter()
+        .chain(SMALL)
+        .flat_map(|(n_rows, n_cols)| by_columns(n_rows, n_cols))
+        .collect();
+    let text = table::text(&rows, &small, &layouts);
     print!("{text}");
     if write && let Err(e) = table::write(&text) {
         eprintln!("bench: {e}");
         return ExitCode::from(2);
     }
-    let within = rows.iter().chain(&small).all(table::Row::within);
+    let mut all = rows.iter().chain(&small).chain(&layouts);
+    let within = all.all(table::Row::within);
     if within && table::between_within(&rows) {
         ExitCode::SUCCESS
     } else {
@@ -64,6 +70,16 @@ fn each_call(rows: usize, cols: usize) -> Vec<table::Row> {
     let measured = calls::ALL.into_iter().map(|call| {
         eprintln!("{} at {rows}x{cols}", call.name);
         table::Row::new(call, &data, measure::measure(call, &data))
+    });
+    measured.collect()
+}
+
+/// The fits by columns beside those by rows at these sizes.
+fn by_columns(rows: usize, cols: usize) -> Vec<table::Row> {
+    let data = Data::new(rows, cols);
+    let measured = calls::LAYOUTS.into_iter().map(|(call, by_rows)| {
+        eprintln!("{} at {rows}x{cols}", call.name);
+        table::Row::new(call, &data, measure::between(call, by_rows, &data))
     });
     measured.collect()
 }

@@ -6,11 +6,11 @@ use oracle::bits::first_difference;
 use std::hint::black_box;
 use std::time::{Duration, Instant};
 
-/// Median seconds a call.
+/// Median seconds a call, of two that were measured in turn.
 #[derive(Clone, Copy)]
 pub struct Times {
-    pub port: f64,
-    pub rust: f64,
+    pub one: f64,
+    pub other: f64,
 }
 
 /// How long both together are measured, and the least length of one sample.
@@ -21,38 +21,50 @@ const SAMPLES: usize = 15;
 
 /// Measures a call by the port and by the Rust in turn, once both gave the same bits.
 pub fn measure(call: Call, data: &Data) -> Times {
+    let mut room = checked(call, data);
+    let port = || run(call, data, &mut room);
+    let rust = || {
+        black_box((call.rust)(black_box(data)));
+    };
+    in_turn(port, rust)
+}
+
+/// Measures two calls by the port in turn, once each gave the Rust's bits.
+pub fn between(one: Call, other: Call, data: &Data) -> Times {
+    let (mut room, mut other_room) = (checked(one, data), checked(other, data));
+    in_turn(
+        || run(one, data, &mut room),
+        || run(other, data, &mut other_room),
+    )
+}
+
+/// The room of a call that gave the Rust's bits in it.
+fn checked(call: Call, data: &Data) -> Room {
     let mut room = Room::new(call, data);
     (call.port)(data, &mut room);
-    let expected = (call.rust)(data);
-    let differs = first_difference(&room.out, &expected);
+    let differs = first_difference(&room.out, &(call.rust)(data));
     assert_eq!(differs, None, "{}: the port and the Rust differ", call.name);
+    room
+}
 
-    let once = time(1, || {
-        black_box((call.rust)(black_box(data)));
-    });
-    let repeat = (SAMPLE.as_secs_f64() / once).ceil().max(1.0) as u32;
-    let (mut port, mut rust) = (Vec::new(), Vec::new());
+fn run(call: Call, data: &Data, room: &mut Room) {
+    (call.port)(black_box(data), room);
+    black_box(&room.out);
+}
+
+fn in_turn(mut one: impl FnMut(), mut other: impl FnMut()) -> Times {
+    let repeat = (SAMPLE.as_secs_f64() / time(1, &mut other)).ceil().max(1.0) as u32;
+    let (mut ones, mut others) = (Vec::new(), Vec::new());
     let start = Instant::now();
-    while port.len() < SAMPLES || start.elapsed() < IN_ALL {
-        let mut take_port = || {
-            port.push(time(repeat, || {
-                (call.port)(black_box(data), &mut room);
-                black_box(&room.out);
-            }));
-        };
-        let mut take_rust = || {
-            rust.push(time(repeat, || {
-                black_box((call.rust)(black_box(data)));
-            }));
-        };
-        take_port();
-        take_rust();
-        take_rust();
-        take_port();
+    while ones.len() < SAMPLES || start.elapsed() < IN_ALL {
+        ones.push(time(repeat, &mut one));
+        others.push(time(repeat, &mut other));
+        others.push(time(repeat, &mut other));
+        ones.push(time(repeat, &mut one));
     }
     Times {
-        port: median(port),
-        rust: median(rust),
+        one: median(ones),
+        other: median(others),
     }
 }
 

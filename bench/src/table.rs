@@ -9,6 +9,10 @@ use std::fs;
 use std::io;
 use std::path::Path;
 
+/// The most that a fit by columns may take, as a multiple of its time by rows.
+const BY_COLUMNS: f64 = 1.5;
+
+/// A call by the port beside the Rust's, or by columns beside the port's by rows.
 pub struct Row {
     name: &'static str,
     rows: usize,
@@ -27,13 +31,14 @@ impl Row {
     }
 
     fn ratio(&self) -> f64 {
-        self.times.port / self.times.rust
+        self.times.one / self.times.other
     }
 
     /// The most that the ratio should be.
     fn limit(&self) -> f64 {
         let size = (self.rows, self.cols);
         match self.name {
+            name if name.ends_with("_by_columns") => BY_COLUMNS,
             "jtj" | "jtj_marquardt" => limit_at(size, [0.07, 0.3, 0.5]),
             "solve_normal_equations" if self.cols <= 8 => 1.8,
             "solve_normal_equations" if self.cols <= 16 => 1.3,
@@ -58,8 +63,8 @@ impl Row {
         format!(
             "| {} | {size} | {} | {} | {}{:.2} | {:.2} |\n",
             self.name,
-            time(self.times.port),
-            time(self.times.rust),
+            time(self.times.one),
+            time(self.times.other),
             if self.within() { "" } else { "**above** " },
             self.ratio(),
             self.limit()
@@ -85,21 +90,22 @@ fn time(seconds: f64) -> String {
 }
 
 /// The tables under a line on the machine and the date.
-pub fn text(rows: &[Row], small: &[Row]) -> String {
+pub fn text(rows: &[Row], small: &[Row], layouts: &[Row]) -> String {
     format!(
-        "{}\n\n{}\n{}\nSmall sizes:\n\n{}",
+        "{}\n\n{}\n{}\nSmall sizes:\n\n{}\nBy columns:\n\n{}",
         machine::line(),
-        table(rows),
+        table("port", "Rust", rows),
         between(rows),
-        table(small)
+        table("port", "Rust", small),
+        table("by columns", "by rows", layouts)
     )
 }
 
-fn table(rows: &[Row]) -> String {
-    let head =
-        "| call | size | port | Rust | port / Rust | most allowed |\n|---|---|---|---|---|---|\n";
+/// A table of times of one and the other.
+fn table(one: &str, other: &str, rows: &[Row]) -> String {
+    let head = format!("| call | size | {one} | {other} | {one} / {other} | most allowed |");
     let body: String = rows.iter().map(Row::text).collect();
-    format!("{head}{body}")
+    format!("{head}\n|---|---|---|---|---|---|\n{body}")
 }
 
 /// The most that `strlsq` at 4096x64 may take with eight refits, as a multiple of its time with one.
@@ -118,7 +124,7 @@ fn in_proportion(rows: &[Row]) -> f64 {
 /// The port's time for a call at 4096x64.
 fn port(rows: &[Row], name: &str) -> f64 {
     let row = rows.iter().find(|r| r.name == name && r.rows == 4096);
-    row.expect("it is measured").times.port
+    row.expect("it is measured").times.one
 }
 
 /// What the port's own times at 4096x64 are to each other.

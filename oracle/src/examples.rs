@@ -46,6 +46,18 @@ pub fn all() -> Vec<Example> {
         example("no-rows", no_rows(), Stop::NoData),
         example("no-ports", no_columns(), Stop::NoData),
         example("no-threshold", f1(0.0, 10), Stop::Settled),
+        example("f1-by-columns", f1(0.5, 10).by_columns(), Stop::Settled),
+        example(
+            "dead-port-by-columns",
+            dead_port().by_columns(),
+            Stop::Settled,
+        ),
+        example(
+            "two-units-by-columns",
+            two_units(Solver::Marquardt).by_columns(),
+            Stop::Settled,
+        ),
+        example("no-rows-by-columns", no_rows().by_columns(), Stop::NoData),
     ]
 }
 
@@ -175,6 +187,7 @@ fn no_rows() -> Problem {
 #[cfg(test)]
 mod tests {
     use super::*;
+    use crate::problem::Layout;
 
     #[test]
     fn each_shows_its_stop() {
@@ -182,6 +195,22 @@ mod tests {
             let (_, said) = answered(&write(&example.problem));
             let (_, fit) = said.expect("no example is refused");
             assert_eq!(fit.report.stop, example.stop, "{}", example.name);
+        }
+    }
+
+    /// Those by columns are answered as the same by rows.
+    #[test]
+    fn both_layouts_are_answered_alike() {
+        let by_columns = |example: &Example| example.problem.layout == Layout::ByColumns;
+        let examples: Vec<Example> = all().into_iter().filter(by_columns).collect();
+        assert_eq!(examples.len(), 4);
+        for Example { problem, name, .. } in examples {
+            let mut by_rows = problem.clone();
+            by_rows.layout = Layout::ByRows;
+            let (input, other) = (write(&problem), write(&by_rows));
+            assert_ne!(input, other, "{name}");
+            assert_eq!(answered(&input).0, answered(&other).0, "{name}");
+            assert_eq!(why::answered(&input).0, why::answered(&other).0, "{name}");
         }
     }
 }

@@ -3,7 +3,7 @@
 use crate::cause::Cause;
 use crate::fit::Fit;
 use crate::generate::{self, Made};
-use crate::problem::Solver;
+use crate::problem::Code;
 use crate::refusal::Refusal;
 use crate::{frames, why};
 
@@ -38,11 +38,11 @@ pub const WHY: Exchange = Exchange {
 };
 
 /// The line for a fit's answer.
-pub fn fit_label(input: &[u8], answer: &Result<(Solver, Fit), Refusal>) -> String {
+pub fn fit_label(input: &[u8], answer: &Result<(Code, Fit), Refusal>) -> String {
     match answer {
-        Ok((solver, fit)) => {
+        Ok((code, fit)) => {
             let stop = fit.report.stop;
-            format!("{:<9} {:02x} {stop:?}", solver.name(), stop.code())
+            label(&code.name(), format!("{:02x} {stop:?}", stop.code()))
         }
         Err(refusal) => refusal_label(input, *refusal),
     }
@@ -51,29 +51,31 @@ pub fn fit_label(input: &[u8], answer: &Result<(Solver, Fit), Refusal>) -> Strin
 /// A line for each term, or one where there is none.
 fn why_labels(input: &[u8], said: &why::Said) -> Vec<String> {
     match said {
-        Ok((solver, causes)) if causes.is_empty() => {
-            vec![format!("{:<9} no columns", solver.name())]
+        Ok((code, causes)) if causes.is_empty() => {
+            vec![label(&code.name(), "no columns".into())]
         }
-        Ok((solver, causes)) => causes
+        Ok((code, causes)) => causes
             .iter()
-            .map(|c| cause_label(*solver, c.code()))
+            .map(|c| cause_label(*code, c.code()))
             .collect(),
         Err(refusal) => vec![refusal_label(input, *refusal)],
     }
 }
 
 /// The line of a cause, by its code.
-pub fn cause_label(solver: Solver, code: u64) -> String {
-    let name = Cause::NAMES[code as usize];
-    format!("{:<9} {code:02x} {name}", solver.name())
+pub fn cause_label(code: Code, cause: u64) -> String {
+    let name = Cause::NAMES[cause as usize];
+    label(&code.name(), format!("{cause:02x} {name}"))
 }
 
 fn refusal_label(input: &[u8], refusal: Refusal) -> String {
-    let solver = match input.get(..2) {
-        Some(b"01") => Solver::Normal.name(),
-        Some(b"02") => Solver::Qr.name(),
-        Some(b"03") => Solver::Marquardt.name(),
-        _ => "none",
-    };
-    format!("{solver:<9} ff{:02x} {refusal:?}", refusal.number())
+    let digits = |code: &Code| format!("{:02x}", code.number()).into_bytes();
+    let code = Code::all().find(|code| input.starts_with(&digits(code)));
+    let name = code.map_or("none".into(), Code::name);
+    label(&name, format!("ff{:02x} {refusal:?}", refusal.number()))
+}
+
+/// A line: what the header's code says, and what was answered.
+pub fn label(code: &str, answer: String) -> String {
+    format!("{code:<20} {answer}")
 }

@@ -1,8 +1,8 @@
-//! The bench program's exchange, bytes in to bytes out, by document 01.
+//! The bench program's exchange, bytes in to bytes out, by document 01; by columns by order 8.
 
 use crate::bits::shown;
 use crate::fit::{Fit, fit};
-use crate::problem::{Problem, Setup, Solver};
+use crate::problem::{Code, Layout, Problem, Setup};
 use crate::refusal::{MAX_FRAME_COLS, MAX_FRAME_ROWS, MAX_ROUNDS, Refusal};
 use std::fmt::Write as _;
 
@@ -17,11 +17,11 @@ pub fn respond(input: &[u8]) -> Vec<u8> {
 }
 
 /// The answer, and what it says where it is no refusal.
-pub fn answered(input: &[u8]) -> (Vec<u8>, Result<(Solver, Fit), Refusal>) {
+pub fn answered(input: &[u8]) -> (Vec<u8>, Result<(Code, Fit), Refusal>) {
     match read(input) {
         Ok(problem) => {
             let fit = fit(&problem);
-            (fit_text(&fit).into_bytes(), Ok((problem.solver, fit)))
+            (fit_text(&fit).into_bytes(), Ok((problem.code(), fit)))
         }
         Err(refusal) => (refusal_text(refusal).into_bytes(), Err(refusal)),
     }
@@ -49,7 +49,7 @@ pub fn refusal_text(refusal: Refusal) -> String {
     format!("ff{:02x}\n", refusal.number())
 }
 
-/// The problem that an input holds, or the first refusal: malformed header, 1, 2, 3, malformed rows or tail.
+/// The problem that an input holds, or the first refusal: malformed header, 1, 2, 3, malformed frames or tail.
 pub fn read(input: &[u8]) -> Result<Problem, Refusal> {
     read_if(input, |_| Ok(()))
 }
@@ -60,7 +60,7 @@ pub fn read_if(
     accepts: fn(Setup) -> Result<(), Refusal>,
 ) -> Result<Problem, Refusal> {
     let (header, rest) = frame(input, HEADER_DIGITS).ok_or(Refusal::MalformedFrame)?;
-    let solver = Solver::of_code(number(&header[0..2])).ok_or(Refusal::MalformedFrame)?;
+    let code = Code::of_number(number(&header[0..2])).ok_or(Refusal::MalformedFrame)?;
     let rows = number(&header[2..6]) as usize;
     let cols = number(&header[6..8]) as usize;
     let setup = Setup {
@@ -78,23 +78,49 @@ pub fn read_if(
         return Err(Refusal::Rounds);
     }
     accepts(setup)?;
-    let mut problem = Problem::zeros(solver, rows, cols, setup);
-    read_rows(rest, &mut problem).ok_or(Refusal::MalformedFrame)?;
-    Ok(problem)
+    let mut problem = Problem::zeros(code.solver, rows, cols, setup);
+    problem.layout = code.layout;
+    let read = match code.layout {
+        Layout::ByRows => read_rows(rest, &mut problem),
+        Layout::ByColumns => read_columns(rest, &mut problem),
+    };
+    match read {
+        Some([]) => Ok(problem),
+        _ => Err(Refusal::MalformedFrame),
+    }
 }
 
-/// Reads a frame a row, the target and then the features, and nothing after.
-fn read_rows(mut input: &[u8], problem: &mut Problem) -> Option<()> {
+/// Reads a frame a row, the target and then the features, and gives what follows.
+fn read_rows<'a>(mut input: &'a [u8], problem: &mut Problem) -> Option<&'a [u8]> {
     for row in 0..problem.rows {
-        let (digits, rest) = frame(input, NUMBER_DIGITS * (1 + problem.cols))?;
-        problem.target[row] = float(&digits[..NUMBER_DIGITS]);
+        let (numbers, rest) = numbers(input, 1 + problem.cols)?;
+        problem.target[row] = numbers[0];
         for term_idx in 0..problem.cols {
-            let from = NUMBER_DIGITS * (1 + term_idx);
-            problem.set(row, term_idx, float(&digits[from..from + NUMBER_DIGITS]));
+            problem.set(row, term_idx, numbers[1 + term_idx]);
         }
         input = rest;
     }
-    input.is_empty().then_some(())
+    Some(input)
+}
+
+/// Reads a frame with all targets, then a frame a column, and gives what follows. With no rows each is an empty line.
+fn read_columns<'a>(input: &'a [u8], problem: &mut Problem) -> Option<&'a [u8]> {
+    let (target, mut input) = numbers(input, problem.rows)?;
+    problem.target = target;
+    for term_idx in 0..problem.cols {
+        let (column, rest) = numbers(input, problem.rows)?;
+        for (row, x) in column.into_iter().enumerate() {
+            problem.set(row, term_idx, x);
+        }
+        input = rest;
+    }
+    Some(input)
+}
+
+/// A frame of so many numbers, and what follows it.
+fn numbers(input: &[u8], count: usize) -> Option<(Vec<f64>, &[u8])> {
+    let (digits, rest) = frame(input, NUMBER_DIGITS * count)?;
+    Some((digits.chunks(NUMBER_DIGITS).map(float).collect(), rest))
 }
 
 /// A frame of so many lowercase hex digits and a newline, and what follows it.
@@ -128,15 +154,28 @@ pub fn write(p: &Problem) -> Vec<u8> {
         lambda,
         max_iter,
     } = p.setup;
-    let mut text = header(p.solver.code(), p.rows, p.cols, max_iter, threshold, lambda);
-    for row in 0..p.rows {
-        push_float(&mut text, p.target[row]);
-        for term_idx in 0..p.cols {
-            push_float(&mut text, p.at(row, term_idx));
+    let code = p.code().number();
+    let mut text = header(code, p.rows, p.cols, max_iter, threshold, lambda);
+    let features = |row: usize| (0..p.cols).map(move |j| p.at(row, j));
+    match p.layout {
+        Layout::ByRows => {
+            for row in 0..p.rows {
+                push_frame(&mut text, [p.target[row]].into_iter().chain(features(row)));
+            }
         }
-        text.push('\n');
+        Layout::ByColumns => {
+            push_frame(&mut text, p.target.iter().copied());
+            for j in 0..p.cols {
+                push_frame(&mut text, (0..p.rows).map(|row| p.at(row, j)));
+            }
+        }
     }
     text.into_bytes()
+}
+
+fn push_frame(text: &mut String, numbers: impl Iterator<Item = f64>) {
+    numbers.for_each(|x| push_float(text, x));
+    text.push('\n');
 }
 
 /// A header frame of any numbers that its digits can hold.
@@ -162,6 +201,7 @@ fn push_float(text: &mut String, x: f64) {
 #[cfg(test)]
 mod tests {
     use super::*;
+    use crate::problem::Solver;
 
     const F1_IN: &str = "01000202000a3fe00000000000000000000000000000\n\
         40080000000000003ff00000000000000000000000000000\n\
@@ -192,7 +232,9 @@ mod tests {
             answer(&format!("{code}{rows}{cols}{rounds}{:032x}\n", 0))
         };
         assert_eq!(header("00", "ffff", "ff", "ffff"), "ff0b\n");
-        assert_eq!(header("04", "0000", "00", "0000"), "ff0b\n");
+        for code in ["04", "10", "14", "0b", "21"] {
+            assert_eq!(header(code, "0000", "00", "0000"), "ff0b\n");
+        }
         assert_eq!(header("01", "ffff", "ff", "ffff"), "ff01\n");
         assert_eq!(header("01", "ffff", "10", "ffff"), "ff02\n");
         assert_eq!(header("01", "0080", "10", "ffff"), "ff03\n");
@@ -201,10 +243,73 @@ mod tests {
         assert_eq!(header("02", "0081", "00", "0000"), "ff02\n");
         assert_eq!(header("02", "0000", "00", "03e9"), "ff03\n");
         assert_eq!(header("03", "ffff", "ff", "ffff"), "ff01\n");
+        assert_eq!(header("11", "ffff", "ff", "ffff"), "ff01\n");
+        assert_eq!(header("12", "ffff", "10", "ffff"), "ff02\n");
+        assert_eq!(header("13", "0080", "10", "ffff"), "ff03\n");
+        assert_eq!(header("11", "0080", "10", "03e8"), "ff0b\n");
+        assert_eq!(header("11", "0010", "80", "03e8"), "ff01\n");
         assert_eq!(
             header("02", "0000", "00", "03e8"),
             "0000000000000000000000ff0000000000000000\n"
         );
+    }
+
+    const F1_BY_COLUMNS: &str = "11000202000a3fe00000000000000000000000000000\n\
+        40080000000000003fd0000000000000\n\
+        3ff00000000000000000000000000000\n\
+        00000000000000003ff0000000000000\n";
+
+    #[test]
+    fn f1_by_columns_is_answered_alike() {
+        assert_eq!(answer(F1_BY_COLUMNS), F1_OUT);
+        let again = write(&read(F1_BY_COLUMNS.as_bytes()).unwrap());
+        assert_eq!(again, F1_BY_COLUMNS.as_bytes());
+        for n in 0..F1_BY_COLUMNS.len() {
+            assert_eq!(answer(&F1_BY_COLUMNS[..n]), "ff0b\n");
+        }
+        assert_eq!(answer(&format!("{F1_BY_COLUMNS}\n")), "ff0b\n");
+    }
+
+    /// The answers to a header by columns with 0 to 5 frames behind it: how many frames are accepted.
+    fn frames_accepted(rows: usize, cols: usize) -> Vec<usize> {
+        let header = header(0x11, rows, cols, 1, 0.5, 0.0);
+        let frame = "0".repeat(NUMBER_DIGITS * rows) + "\n";
+        let accepted = |&n: &usize| answer(&format!("{header}{}", frame.repeat(n))) != "ff0b\n";
+        (0..6).filter(accepted).collect()
+    }
+
+    #[test]
+    fn there_is_a_frame_of_targets_and_one_a_column() {
+        assert_eq!(frames_accepted(2, 3), [4]);
+        assert_eq!(frames_accepted(0, 3), [4]);
+        assert_eq!(frames_accepted(2, 0), [1]);
+        assert_eq!(frames_accepted(0, 0), [1]);
+    }
+
+    /// Three rows of two columns have frames of the same lengths in both layouts.
+    #[test]
+    fn the_code_alone_tells_the_layout() {
+        let mut p = Problem::zeros(Solver::Normal, 3, 2, crate::table::f1(0.5, 10).setup);
+        p.target = vec![1.0, 4.0, 7.0];
+        p.theta = vec![2.0, 3.0, 5.0, 6.0, 8.0, 9.0];
+        let mut text = write(&p);
+        text[0] = b'1';
+        let other = read(&text).unwrap();
+        assert_eq!(other.target, [1.0, 2.0, 3.0]);
+        assert_eq!(other.theta, [4.0, 7.0, 5.0, 8.0, 6.0, 9.0]);
+        assert_eq!(write(&other), text);
+    }
+
+    #[test]
+    fn the_longest_input_is_by_rows() {
+        let setup = crate::table::f1(0.5, 10).setup;
+        let longest = |rows, cols| {
+            let p = Problem::zeros(Solver::Normal, rows, cols, setup);
+            let (by_rows, by_columns) = (write(&p), write(&p.by_columns()));
+            (by_rows.len(), by_columns.len())
+        };
+        assert_eq!(longest(128, 16), (34_989, 34_878));
+        assert_eq!(longest(0, 16), (45, 62));
     }
 
     #[test]

@@ -6,7 +6,7 @@ use crate::fit::{NO_TERM, Stop, fit};
 use crate::frames::respond;
 use crate::linalg::{invert_spd, qr, solve_lu, solve_spd_cholesky};
 use crate::model;
-use crate::problem::{Problem, Setup, Solver};
+use crate::problem::{Code, Layout, Problem, Setup, Solver};
 use crate::refusal::Refusal;
 
 /// One number of the table.
@@ -23,7 +23,8 @@ pub fn lines() -> Vec<Line> {
     lines.extend(causes());
     lines.extend(solvers());
     lines.extend(inverses());
-    lines.push(exchange());
+    lines.extend(exchanges());
+    lines.extend(by_columns());
     lines.extend(sizes());
     lines
 }
@@ -142,7 +143,15 @@ fn fits() -> Vec<Line> {
         case("G12", g12(), &[nan], OutOfRounds, 0, 0, 1.0),
         case("G13", infinite(0.0), &[0.0], Empty, 0, 1, nan),
         case("G14", infinite(0.5), &[0.0], Empty, 0, 0, 1.0),
-        case("G15", cancelling(), &[-1.0, 1.0], Settled, 1, 3, tiny * tiny),
+        case(
+            "G15",
+            cancelling(),
+            &[-1.0, 1.0],
+            Settled,
+            1,
+            3,
+            tiny * tiny,
+        ),
         case("G16", no_columns(), &[], NoData, 0, 0, 9.0625),
     ]
 }
@@ -327,17 +336,55 @@ fn inverses() -> Vec<Line> {
     ]
 }
 
-/// F1 as frames.
-fn exchange() -> Line {
-    let input = "01000202000a3fe00000000000000000000000000000\n\
+/// F1 as frames, by rows and by columns.
+fn exchanges() -> [Line; 2] {
+    let by_rows = "01000202000a3fe00000000000000000000000000000\n\
         40080000000000003ff00000000000000000000000000000\n\
         3fd000000000000000000000000000003ff0000000000000\n";
+    let by_columns = "11000202000a3fe00000000000000000000000000000\n\
+        40080000000000003fd0000000000000\n\
+        3ff00000000000000000000000000000\n\
+        00000000000000003ff0000000000000\n";
     let output = "0400010000000000000001ff3fb0000000000000\n4008000000000000\n0000000000000000\n";
-    line(
-        "F1",
-        "as frames, byte for byte",
-        respond(input.as_bytes()) == output.as_bytes(),
-    )
+    let answered = |input: &str| respond(input.as_bytes()) == output.as_bytes();
+    [
+        line("F1", "as frames, byte for byte", answered(by_rows)),
+        line("F1", "by columns, byte for byte", answered(by_columns)),
+    ]
+}
+
+/// G17: three readings of two ports, a port after the other; the second alone is kept. By rows the second port would be dead.
+fn by_columns() -> [Line; 3] {
+    let (theta, target) = ([1.0, 0.0, 0.0, 0.0, 1.0, 0.0], [0.25, 3.0, 0.0]);
+    Solver::ALL.map(|solver| {
+        let setup = Setup {
+            threshold: 0.5,
+            lambda: 0.0,
+            max_iter: 10,
+        };
+        let (mut coeffs, mut workspace) = ([9.0; 2], [9.0; 64]);
+        let code = Code {
+            solver,
+            layout: Layout::ByColumns,
+        };
+        let report = model::fit(
+            code,
+            &theta,
+            3,
+            2,
+            &target,
+            setup,
+            &mut coeffs,
+            &mut workspace,
+        );
+        let settled = report
+            .is_ok_and(|r| (r.stop, r.refits, r.kept, r.error) == (Stop::Settled, 1, 2, 0.0625));
+        line(
+            "G17",
+            format!("{} {coeffs:?}", code.name()),
+            coeffs.map(f64::to_bits) == [0.0, 3.0].map(f64::to_bits) && settled,
+        )
+    })
 }
 
 /// The size sentences, by the model of the calls.
@@ -353,7 +400,7 @@ fn sizes() -> Vec<Line> {
         let needed = 3 * cols * cols + 2 * cols;
         let (mut coeffs, mut workspace) = (vec![1.0; cols], vec![1.0; needed - short]);
         model::fit(
-            Solver::Normal,
+            p.code(),
             &p.theta,
             1,
             cols,

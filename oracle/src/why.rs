@@ -4,11 +4,11 @@ use crate::bits::shown;
 use crate::cause::Cause;
 use crate::fit::fit;
 use crate::frames::{read_if, refusal_text};
-use crate::problem::{Setup, Solver};
+use crate::problem::{Code, Setup};
 use crate::refusal::Refusal;
 
-/// The solver and the cause of each term, or the refusal.
-pub type Said = Result<(Solver, Vec<Cause>), Refusal>;
+/// The header's code and the cause of each term, or the refusal.
+pub type Said = Result<(Code, Vec<Cause>), Refusal>;
 
 /// The answer, and what it says.
 pub fn answered(input: &[u8]) -> (Vec<u8>, Said) {
@@ -16,7 +16,7 @@ pub fn answered(input: &[u8]) -> (Vec<u8>, Said) {
         Ok(problem) => {
             let causes = fit(&problem).causes;
             let text: String = causes.iter().map(line).collect();
-            (text.into_bytes(), Ok((problem.solver, causes)))
+            (text.into_bytes(), Ok((problem.code(), causes)))
         }
         Err(refusal) => (refusal_text(refusal).into_bytes(), Err(refusal)),
     }
@@ -53,10 +53,13 @@ mod tests {
         let input = "01000202000a3fe00000000000000000000000000000\n\
             40080000000000003ff00000000000000000000000000000\n\
             3fd000000000000000000000000000003ff0000000000000\n";
-        assert_eq!(
-            answer(input),
-            "0200000000000000000000\n0300013fd0000000000000\n"
-        );
+        let causes = "0200000000000000000000\n0300013fd0000000000000\n";
+        assert_eq!(answer(input), causes);
+        let by_columns = "11000202000a3fe00000000000000000000000000000\n\
+            40080000000000003fd0000000000000\n\
+            3ff00000000000000000000000000000\n\
+            00000000000000003ff0000000000000\n";
+        assert_eq!(answer(by_columns), causes);
     }
 
     #[test]

@@ -226,7 +226,7 @@ macro_rules! fits {
 }
 
 fits! {
-    /// The fit by normal equations: coefficients into `coeffs` of `n_cols` numbers, and the report. The workspace
+    /// The fit by normal equations of a theta by rows: coefficients into `coeffs` of `n_cols` numbers, and the report. The workspace
     /// needs [`strlsq_workspace`] numbers. Refuses 1 to 7.
     strlsq by dapmotar_strlsq;
 
@@ -236,6 +236,16 @@ fits! {
     /// The fit by normal equations that are damped in proportion, as [`jtj_marquardt`] damps: as [`strlsq`], with
     /// [`strlsq_marquardt_workspace`] numbers of workspace. Refuses 1 to 7.
     strlsq_marquardt by dapmotar_strlsq_marquardt;
+
+    /// [`strlsq`] of a theta that is stored by columns: number `j * n_rows + i` is row i, column j. Everything else is as
+    /// there, the workspace too. For every matrix both give the same report and coefficients.
+    strlsq_by_columns by dapmotar_strlsq_by_columns;
+
+    /// [`strlsq_qr`] of a theta that is stored by columns, as [`strlsq_by_columns`].
+    strlsq_qr_by_columns by dapmotar_strlsq_qr_by_columns;
+
+    /// [`strlsq_marquardt`] of a theta that is stored by columns, as [`strlsq_by_columns`].
+    strlsq_marquardt_by_columns by dapmotar_strlsq_marquardt_by_columns;
 }
 
 #[allow(clippy::too_many_arguments)]
@@ -272,17 +282,20 @@ fn fit(
     Ok(Report::from_words(report, error))
 }
 
-/// The workspace that [`strlsq`] needs, in numbers; 0 also where the sizes are beyond the limits, which it refuses.
+/// The workspace that [`strlsq`] and [`strlsq_by_columns`] need, in numbers; 0 also where the sizes are beyond the limits,
+/// which they refuse.
 pub fn strlsq_workspace(n_rows: usize, n_cols: usize) -> usize {
     raw::dapmotar_strlsq_workspace(n_rows, n_cols)
 }
 
-/// The workspace that [`strlsq_qr`] needs, in numbers; 0 also where the sizes are beyond the limits, which it refuses.
+/// The workspace that [`strlsq_qr`] and [`strlsq_qr_by_columns`] need, in numbers; 0 also where the sizes are beyond the limits,
+/// which they refuse.
 pub fn strlsq_qr_workspace(n_rows: usize, n_cols: usize) -> usize {
     raw::dapmotar_strlsq_qr_workspace(n_rows, n_cols)
 }
 
-/// The workspace that [`strlsq_marquardt`] needs, in numbers; 0 also where the sizes are beyond the limits, which it refuses.
+/// The workspace that [`strlsq_marquardt`] and [`strlsq_marquardt_by_columns`] need, in numbers; 0 also where the sizes are beyond the limits,
+/// which they refuse.
 pub fn strlsq_marquardt_workspace(n_rows: usize, n_cols: usize) -> usize {
     raw::dapmotar_strlsq_marquardt_workspace(n_rows, n_cols)
 }

@@ -30,4 +30,4 @@ pub use calls::*;
 pub use raw::{ANSWER, WHY_ANSWER};
 pub use refusal::Refusal;
 pub use report::{Report, Setup, Stop};
-pub use why::{Cause, Solver, respond_why, why};
+pub use why::{Cause, Solver, respond_why, why, why_by_columns};

@@ -21,8 +21,9 @@ macro_rules! alike {
 }
 
 alike! {
-    /// Any of the fits.
-    Fit: dapmotar_strlsq dapmotar_strlsq_qr dapmotar_strlsq_marquardt: (
+    /// Any of the fits: theta by rows, or by columns.
+    Fit: dapmotar_strlsq dapmotar_strlsq_qr dapmotar_strlsq_marquardt
+        dapmotar_strlsq_by_columns dapmotar_strlsq_qr_by_columns dapmotar_strlsq_marquardt_by_columns: (
         theta: *const f64,
         theta_len: usize,
         n_rows: usize,

@@ -4,7 +4,7 @@ use crate::raw::{self, WHY_ANSWER};
 use crate::refusal::Refusal;
 use crate::report::Setup;
 
-/// Which fit: its code as in a header.
+/// Which fit: its code as in a header, for a theta by rows.
 #[derive(Clone, Copy, Debug, PartialEq, Eq, Hash)]
 #[repr(u64)]
 pub enum Solver {
@@ -52,11 +52,39 @@ impl Cause {
     }
 }
 
-/// The fit by this solver, and what became of one of its terms. `coeffs` and `workspace` are as that fit needs and
-/// leaves them. Refuses 1, 2, 3, 12, 13, 4, 5, 6, 7.
+macro_rules! whys {
+    ($($(#[$doc:meta])* $name:ident by $layout:literal;)*) => {$(
+        $(#[$doc])*
+        #[allow(clippy::too_many_arguments)]
+        pub fn $name(
+            solver: Solver,
+            theta: &[f64],
+            n_rows: usize,
+            n_cols: usize,
+            target: &[f64],
+            setup: Setup,
+            term: usize,
+            coeffs: &mut [f64],
+            workspace: &mut [f64],
+        ) -> Result<Cause, Refusal> {
+            let code = $layout + solver as u64;
+            asked(code, theta, n_rows, n_cols, target, setup, term, coeffs, workspace)
+        }
+    )*};
+}
+
+whys! {
+    /// The fit by this solver, and what became of one of its terms. `coeffs` and `workspace` are as that fit needs and
+    /// leaves them. Refuses 1, 2, 3, 12, 13, 4, 5, 6, 7.
+    why by 0x00;
+
+    /// [`why`] of a theta that is stored by columns, as [`strlsq_by_columns`](crate::strlsq_by_columns) reads it.
+    why_by_columns by 0x10;
+}
+
 #[allow(clippy::too_many_arguments)]
-pub fn why(
-    solver: Solver,
+fn asked(
+    code: u64,
     theta: &[f64],
     n_rows: usize,
     n_cols: usize,
@@ -69,7 +97,7 @@ pub fn why(
     let (mut cause, mut value) = ([0; 2], [0.0]);
     Refusal::answer(unsafe {
         raw::dapmotar_why(
-            solver as u64,
+            code,
             theta.as_ptr(),
             theta.len(),
             n_rows,

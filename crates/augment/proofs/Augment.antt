@@ -11,7 +11,7 @@ use lib.Dec.{eqb}
 use lib.ListN.{length, replicate, length-replicate, getD-replicate}
 use lib.Ieee.{Float, nan}
 use borrow.Author.Tests.{lt-ltb, le-ltb}
-use Rattle.steps.specs.Num.{+zero, at, cell}
+use Rattle.steps.specs.Num.{+zero, Entry, at, cell}
 use Rattle.steps.specs.Cond.{lt-or-ge}
 use Rattle.steps.specs.Table.{tab, is-tab, table, is-table}
 use Rattle.steps.specs.Space.{cleared, cleared-all, withPart, length-with, get-with, get-after}
@@ -42,17 +42,17 @@ ridge-more rows k root i s s' s'' d u =
     same r c h g = u .rest (r * k + c) (λ c' a b q. rows-apart k r (rows + i) c c' (inl h) g b q)
 
 -- the gathered rows and the rows below are the augmented matrix
-module _ (rows n w k : ℕ) (root : Float) (theta : List Float) (l : List ℕ) (s s₁ s₂ : List Float) (few : k ≡ ones w) (len : length s ≡ (rows + k) * k)
-    (ls : Lists n w l) (top : Rows (rows + k) k (listed l (cell n theta)) s rows s₁) (low : Ridged rows k root k s₁ s₂) where
-  entry : (i c : ℕ) → i < rows + k → c < k → (i < rows) ⊎ (rows ≤ i) → cell k s₂ i c ≡ augmented rows root (columns n w (cell n theta)) i c
+module _ (rows n w k : ℕ) (root : Float) (e : Entry) (l : List ℕ) (s s₁ s₂ : List Float) (few : k ≡ ones w) (len : length s ≡ (rows + k) * k)
+    (ls : Lists n w l) (top : Rows (rows + k) k (listed l e) s rows s₁) (low : Ridged rows k root k s₁ s₂) where
+  entry : (i c : ℕ) → i < rows + k → c < k → (i < rows) ⊎ (rows ≤ i) → cell k s₂ i c ≡ augmented rows root (columns n w e) i c
   unfolding augmented
   entry i c h g (inl b) =
-      low .old i c b g ∙ top .new i c b g ∙ listed-is n w l ls (cell n theta) i c (omega arith) ∙ sym (rw (lt-ltb i rows b))
+      low .old i c b g ∙ top .new i c b g ∙ listed-is n w l ls e i c (omega arith) ∙ sym (rw (lt-ltb i rows b))
   entry i c h g (inr b) =
-      let e : rows + (i - rows) ≡ i = omega arith in
-      subst (λ (x : ℕ). cell k s₂ x c ≡ cond (eqb (i - rows) c) root +zero) e (low .new (i - rows) c (omega arith) g) ∙ sym (rw (le-ltb i rows b))
+      let row : rows + (i - rows) ≡ i = omega arith in
+      subst (λ (x : ℕ). cell k s₂ x c ≡ cond (eqb (i - rows) c) root +zero) row (low .new (i - rows) c (omega arith) g) ∙ sym (rw (le-ltb i rows b))
 
-  pub augmented-is : s₂ ≡ table (rows + k) k (augmented rows root (columns n w (cell n theta)))
+  pub augmented-is : s₂ ≡ table (rows + k) k (augmented rows root (columns n w e))
   augmented-is = is-table (rows + k) k _ s₂ nan (low .long ∙ top .long ∙ len) (λ i c h g. entry i c h g (lt-or-ge i rows))
 
 -- the target copied over zeros, as a part from 0 comes back

@@ -1,2 +1,3 @@
--- QR's matrix, and the rows below theta's in it. Assumes nothing.
+-- QR's matrix: the rows of theta in it, and the rows below them. Assumes nothing.
 pub mod Ridged
+pub mod Taken

@@ -1,4 +1,6 @@
 // Theta's supported columns with as many more rows below, and the target with zeros below it: what least squares solves for a refit.
+pub mod columns;
+
 ghost use mathlib.Core.Path.{_≡_};
 ghost use mathlib.Core.Bool.{cond};
 ghost use Prim.Native.Nat.{_+_, _*_, _≤_, _<_};
@@ -9,10 +11,13 @@ ghost use Rattle.steps.specs.Num.{+zero, at, cell};
 ghost use Rattle.steps.specs.Rows.{Rows};
 ghost use Rattle.steps.specs.Table.{tab};
 ghost use Rattle.steps.specs.Wrote.{Wrote};
+ghost use Rattle.places.specs.Stored.{stored};
 ghost use Rattle.places.specs.Columns.{Within, Listed, listed};
 ghost use Rattle.rule.specs.Fits.{padded};
 ghost use Rattle.augment.specs.Ridged.{Ridged, qr-matrix};
+use crate::inner::columns::gather_columns;
 use float64::sqrt;
+use places::Layout;
 use places::inner::at_place;
 use places::inner::list_terms;
 use slices::inner::clear;
@@ -49,8 +54,8 @@ fn take_row(
     }
 }
 
-// The rows of theta, cut to the supported columns.
-fn gather(
+// The rows of theta by rows, cut to the supported columns.
+fn gather_rows(
     theta: &[f64],
     n_rows: usize,
     n_cols: usize,
@@ -63,6 +68,25 @@ fn gather(
 {
     for i in 0..n_rows {
         take_row(theta, n_rows, n_cols, terms, n_active, i, s);
+    }
+}
+
+// The rows of theta, as it is stored, cut to the supported columns.
+fn gather(
+    layout: Layout,
+    theta: &[f64],
+    n_rows: usize,
+    n_cols: usize,
+    terms: &[usize],
+    n_active: usize,
+    s: &mut [f64],
+)
+    requires { ⌜ Listed «n_rows» «n_cols» «n_active» (now terms) (now theta) × («n_rows» * «n_active» ≤ length (now s)) ⌝ }
+    ensures { λ _. ⌜ Rows («n_rows» + «n_active») «n_active» (listed (now (terms .entry)) (stored layout «n_rows» «n_cols» (now (theta .entry)))) (now (s .entry)) «n_rows» (now (s .exit)) ⌝ }
+{
+    match layout {
+        Layout::ByRows => gather_rows(theta, n_rows, n_cols, terms, n_active, s),
+        Layout::ByColumns => gather_columns(theta, n_rows, n_cols, terms, n_active, s),
     }
 }
 
@@ -96,6 +120,7 @@ fn add_ridge(n_rows: usize, n_active: usize, root: f64, s: &mut [f64])
 
 // Theta's supported columns with the rows below.
 fn augment_with(
+    layout: Layout,
     theta: &[f64],
     n_rows: usize,
     n_cols: usize,
@@ -105,15 +130,16 @@ fn augment_with(
     terms: &mut [usize],
 )
     requires { ⌜ Within (now theta) «n_rows» «n_cols» (support .0) × (length (now terms) ≡ «n_cols») × (length (now s) ≡ («n_rows» + ones (support .0)) * ones (support .0)) ⌝ }
-    ensures { λ _. ⌜ now (s .exit) ≡ qr-matrix «n_rows» «n_cols» (support .0) lambda (now (theta .entry)) ⌝ }
+    ensures { λ _. ⌜ now (s .exit) ≡ qr-matrix «n_rows» «n_cols» (support .0) lambda (stored layout «n_rows» «n_cols» (now (theta .entry))) ⌝ }
 {
     let n_active = support.count();
     list_terms(support, n_cols, terms);
-    gather(theta, n_rows, n_cols, terms, n_active, s);
+    gather(layout, theta, n_rows, n_cols, terms, n_active, s);
     add_ridge(n_rows, n_active, sqrt(lambda), s);
 }
 
 pub fn augment(
+    layout: Layout,
     theta: &[f64],
     n_rows: usize,
     n_cols: usize,
@@ -122,10 +148,11 @@ pub fn augment(
     s: &mut [f64],
 )
     requires { ⌜ Within (now theta) «n_rows» «n_cols» (support .0) × (length (now s) ≡ («n_rows» + ones (support .0)) * ones (support .0)) ⌝ }
-    ensures { λ _. ⌜ now (s .exit) ≡ qr-matrix «n_rows» «n_cols» (support .0) lambda (now (theta .entry)) ⌝ }
+    ensures { λ _. ⌜ now (s .exit) ≡ qr-matrix «n_rows» «n_cols» (support .0) lambda (stored layout «n_rows» «n_cols» (now (theta .entry))) ⌝ }
 {
     let mut terms = [0usize; 64];
     augment_with(
+        layout,
         theta,
         n_rows,
         n_cols,

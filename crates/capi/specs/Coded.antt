@@ -1,24 +1,17 @@
--- The question why, by the solver's code, and its answer as numbers. Assumes nothing.
+-- The question why, by its code, and its answer as numbers. Assumes nothing.
 use mathlib.Core.Path.{_≡_}
-use mathlib.Core.Bool.{cond}
 use mathlib.Core.List.{List, [], _∷_}
 use Prim.Native.Nat.{ℕ}
-use lib.Dec.{eqb}
 use lib.Ieee.{Float}
 use Rattle.refusal.specs.declared.Refusal.the-variants.{Malformed}
-use Rattle.rule.specs.Tasks.{task-of}
+use Rattle.rule.specs.Tasks.{task-of, laid}
+use Rattle.rule.specs.declared.Coded.{Coded}
+use Rattle.rule.specs.declared.Coded.the-variants.{By, Unknown}
 use Rattle.rule.specs.declared.Setup.{Setup}
-use Rattle.rule.specs.declared.Solver.the-variants.{Normal, Qr, Marquardt}
 use Rattle.why.specs.Codes.{cause-code, cause-refit, cause-value}
 use Rattle.why.specs.Calls.{WhyCall}
 use Rattle.why.specs.declared.Caused.{Caused}
 use Rattle.why.specs.declared.Caused.the-variants.{Because, Refused}
-use Rattle.capi.specs.declared.explain.Coded.{Coded}
-use Rattle.capi.specs.declared.explain.Coded.the-variants.{By, Unknown}
-
--- 1 normal equations, 2 QR, 3 normal equations damped in proportion, as in the bench program's header; any other is unknown
-unfoldable pub solver-of : ℕ → Coded
-solver-of code = cond (eqb code 1) (By Normal) (cond (eqb code 2) (By Qr) (cond (eqb code 3) (By Marquardt) Unknown))
 
 -- an unknown code is refused as malformed, and nothing is written
 pub record Unasked (cs cs' w w' : List Float) (r : Caused) : Type 0 where
@@ -26,9 +19,9 @@ pub record Unasked (cs cs' w w' : List Float) (r : Caused) : Type 0 where
   pub coeffs : cs' ≡ cs
   pub space : w' ≡ w
 
--- the call, by its code
+-- the call, by what its code stands for: a solver, and the way in which theta is stored
 abbrev pub WhyCoded : Coded → ℕ → ℕ → Setup → ℕ → List Float → List Float → List Float → List Float → List Float → List Float → Caused → Type 0
-WhyCoded (By solver) rows n setup j theta target cs cs' w w' r = WhyCall (task-of solver rows n setup) j theta target cs cs' w w' r
+WhyCoded (By layout solver) rows n setup j theta target cs cs' w w' r = WhyCall (laid layout (task-of solver rows n setup)) j theta target cs cs' w w' r
 WhyCoded Unknown rows n setup j theta target cs cs' w w' r = Unasked cs cs' w w' r
 
 -- the cause's code and refit number; a refusal leaves what stood there

@@ -30,8 +30,8 @@ use Rattle.why.specs.Unique.{why-unique}
 use Rattle.why.specs.declared.Caused.{Caused}
 use Rattle.capi.specs.Numbered.{Numbered, Reported, WithColumn, workspace}
 use Rattle.capi.specs.Coded.{WhyCoded, Explained}
-use Rattle.capi.specs.declared.explain.Coded.{Coded}
-use Rattle.capi.specs.declared.explain.Coded.the-variants.{By, Unknown}
+use Rattle.rule.specs.declared.Coded.{Coded}
+use Rattle.rule.specs.declared.Coded.the-variants.{By, Unknown}
 
 pub export-sqrt-unique : (x r s : Float) → SqrtCall x r → SqrtCall x s → r ≡ s
 export-sqrt-unique = sqrt-unique
@@ -114,7 +114,7 @@ module _ (task : Task) (theta target cs w cs' w' cs'' w'' : List Float) (p p' p'
 -- by any code: an unknown one leaves no choice either
 coded-unique : (k : Coded) (rows n : ℕ) (setup : Setup) (j : ℕ) (theta target cs w cs' w' cs'' w'' : List Float) (r s : Caused)
     → WhyCoded k rows n setup j theta target cs cs' w w' r → WhyCoded k rows n setup j theta target cs cs'' w w'' s → (r ≡ s) × (cs' ≡ cs'') × (w' ≡ w'')
-coded-unique (By solver) rows n setup j theta target cs w cs' w' cs'' w'' r s p q = why-unique _ j theta target cs w cs' w' cs'' w'' r s p q
+coded-unique (By layout solver) rows n setup j theta target cs w cs' w' cs'' w'' r s p q = why-unique _ j theta target cs w cs' w' cs'' w'' r s p q
 coded-unique Unknown rows n setup j theta target cs w cs' w' cs'' w'' r s p q = (cc, cc, cc)
 
 module _ (k : Coded) (rows n : ℕ) (setup : Setup) (j : ℕ) (theta target cs w cs' w' cs'' w'' : List Float) (p p' p'' : List ℕ) (v v' v'' : List Float) where

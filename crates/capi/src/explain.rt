@@ -1,40 +1,22 @@
-// Why a term was kept or not, by the solver's code.
+// Why a term was kept or not, by the code of the solver and of theta's layout.
 ghost use mathlib.Core.Path.{_≡_};
+ghost use Rattle.rule.specs.Codes.{by-code};
 ghost use Rattle.rule.specs.Tasks.{setup-of};
 ghost use Rattle.why.specs.Codes.{caused-number};
 ghost use Rattle.capi.specs.Numbered.{Numbered};
-ghost use Rattle.capi.specs.Coded.{solver-of, cause-numbers, cause-values, WhyCoded, Explained};
+ghost use Rattle.capi.specs.Coded.{cause-numbers, cause-values, WhyCoded, Explained};
 use refusal::Refusal;
+use rule::Coded;
 use rule::Setup;
-use rule::Solver;
+use rule::Task;
+use rule::by_code;
 use support::Term;
 use why::Caused;
 use why::cause_code;
 use why::cause_refit;
 use why::cause_value;
 use why::caused_number;
-
-// The solver of a code, as in the bench program's header.
-pub enum Coded {
-    By(Solver),
-    Unknown,
-}
-
-// 1, 2, 3, and no other.
-fn solver_of(code: u64) -> Coded
-    ensures { λ r. ⌜ r ≡ solver-of code ⌝ }
-{
-    if code == 1 {
-        return Coded::By(Solver::Normal);
-    }
-    if code == 2 {
-        return Coded::By(Solver::Qr);
-    }
-    if code == 3 {
-        return Coded::By(Solver::Marquardt);
-    }
-    Coded::Unknown
-}
+use why::inner::call::why_task;
 
 // The code and the refit number of a cause into `cause`, its coefficient into `value`; a refusal leaves both unchanged.
 fn put_cause(answer: Caused, cause: &mut [u64; 2], value: &mut [f64; 1])
@@ -62,22 +44,21 @@ fn why_by(
         (now (coeffs .entry)) (now (coeffs .exit)) (now (workspace .entry)) (now (workspace .exit)) r ⌝ }
 {
     match code {
-        Coded::By(solver) => why::why(
-            solver,
-            theta,
-            n_rows,
-            n_cols,
-            target,
-            setup,
-            term_idx,
-            coeffs,
-            workspace,
-        ),
+        Coded::By(layout, solver) => {
+            let task = Task {
+                solver,
+                layout,
+                rows: n_rows,
+                cols: n_cols,
+                setup,
+            };
+            why_task(task, theta, target, term_idx, coeffs, workspace)
+        }
         Coded::Unknown => Caused::Refused(Refusal::Malformed),
     }
 }
 
-// Why a term of a fit was kept or not. `cause` is its code and refit number, `value` its coefficient; zeros where the cause has none.
+// Why a term of a fit was kept or not, by a code as in the bench programs' header. `cause` is its code and refit number, `value` its coefficient; zeros where the cause has none.
 #[no_mangle]
 pub extern "C" fn dapmotar_why(
     code: u64,
@@ -94,7 +75,7 @@ pub extern "C" fn dapmotar_why(
     cause: &mut [u64; 2],
     value: &mut [f64; 1],
 ) -> u64
-    ensures { λ r. ⌜ Numbered caused-number (Explained (WhyCoded (solver-of code) «n_rows» «n_cols» (setup-of threshold lambda «max_iter») term (now (theta .entry)) (now (target .entry))
+    ensures { λ r. ⌜ Numbered caused-number (Explained (WhyCoded (by-code code) «n_rows» «n_cols» (setup-of threshold lambda «max_iter») term (now (theta .entry)) (now (target .entry))
         (now (coeffs .entry)) (now (coeffs .exit)) (now (workspace .entry)) (now (workspace .exit))) (now (cause .entry)) (now (cause .exit)) (now (value .entry)) (now (value .exit))) r ⌝ }
 {
     let setup = Setup {
@@ -103,7 +84,7 @@ pub extern "C" fn dapmotar_why(
         max_iter: max_iter,
     };
     let answer = why_by(
-        solver_of(code),
+        by_code(code),
         theta,
         n_rows,
         n_cols,

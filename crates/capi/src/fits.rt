@@ -13,7 +13,7 @@ use rule::stop_code;
 use rule::stop_term;
 
 // Stop, refits, kept word and refused term of a fit into `report`, its squared error into `error`; a refusal leaves both unchanged.
-fn put_report(answer: Fitted, report: &mut [u64; 4], error: &mut [f64; 1])
+pub fn put_report(answer: Fitted, report: &mut [u64; 4], error: &mut [f64; 1])
     ensures { λ _. ⌜ (now (report .exit) ≡ report-numbers answer (now (report .entry))) × (now (error .exit) ≡ report-error answer (now (error .entry))) ⌝ }
 {
     if let Fitted::Fit(f) = answer {

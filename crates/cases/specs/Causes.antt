@@ -37,3 +37,13 @@ zeroed-causes = refl
 pub F8-causes : causes-of (text "0100010100003fe00000000000000000000000000000\n7ff80000000000003ff0000000000000\n") ≡ text "0600000000000000000000\n"
 unfolding fits telling
 F8-causes = refl
+
+-- by columns: F1, and three empty lines where there are no rows
+pub F1-columns-causes : causes-of (text "11000202000a3fe00000000000000000000000000000\n40080000000000003fd0000000000000\n3ff00000000000000000000000000000\n00000000000000003ff0000000000000\n")
+    ≡ text "0200000000000000000000\n0300013fd0000000000000\n"
+unfolding fits telling
+F1-columns-causes = refl
+
+pub no-rows-columns-causes : causes-of (text "12000002000a3fe00000000000000000000000000000\n\n\n\n") ≡ text "0000000000000000000000\n0000000000000000000000\n"
+unfolding fits telling
+no-rows-columns-causes = refl

@@ -5,6 +5,7 @@ pub mod Limits
 pub mod Exchange
 pub mod Cases
 pub mod Promises
+pub mod Layouts
 pub mod InDigits
 pub mod ReadBack
 pub mod Unique

@@ -18,15 +18,21 @@ use Rattle.refusal.specs.declared.Refusal.{Refusal}
 use Rattle.refusal.specs.declared.Refusal.the-variants.{Malformed}
 use Rattle.hex.specs.All.{all}
 use Rattle.hex.specs.Hex.{value, all-hex, number-at}
+use Rattle.places.specs.declared.Layout.{Layout}
+use Rattle.places.specs.declared.Layout.the-variants.{ByRows, ByColumns}
 use Rattle.rule.specs.Sizes.{Limited}
+use Rattle.rule.specs.Codes.{by-code}
+use Rattle.rule.specs.declared.Coded.{Coded}
+use Rattle.rule.specs.declared.Coded.the-variants.{By, Unknown}
+use Rattle.rule.specs.declared.Solver.{Solver}
 use Rattle.rule.specs.declared.Task.{Task}
-use Rattle.reader.specs.Header.{header-digits, header-frame, header-formed, header, head-of}
+use Rattle.reader.specs.Header.{header-digits, header-frame, header-formed, header, head-by, head-of}
 use Rattle.reader.specs.Frames.{frame-at, frames-formed}
-use Rattle.reader.specs.Rows.{row-digits}
+use Rattle.reader.specs.Numbers.{frame-count, frame-digits}
 use Rattle.reader.specs.declared.inner.header.Head.{Head}
 use Rattle.reader.specs.declared.inner.header.Head.the-variants.{Good, Wrong}
 use Rattle.exchange.specs.Limits.{most-cols, most-rows, input-room}
-use Rattle.exchange.specs.Exchange.{rows-formed, then-rows, answer-lines, answer-to, answer-by}
+use Rattle.exchange.specs.Exchange.{task-frames, task-digits, frames-fine, then-rows, answer-lines, answer-to, answer-by}
 
 -- where the first ladder is passed, the second refuses as w
 refused-after : (a next : Answer) (w : Refusal) → (a ≡ Done → next ≡ Refused w) → and-then a next ≡ and-then a (Refused w)
@@ -50,15 +56,10 @@ module _ (s t : List ℕ) (same : (i : ℕ) → i < header-frame → getD s i 0 
   unfolding all-hex
   hex-same = all-same _ _ header-digits (λ i l. ap (λ (y : ℕ). ltb (value y) 16) (same (0 + i) (omega arith)))
 
-  head-same : header-frame ≤ length s → header-frame ≤ length t → head-of s ≡ head-of t
-  unfolding head-of header-formed header
-  head-same h k =
+  fields-same : (layout : Layout) (solver : Solver) → header s layout solver ≡ header t layout solver
+  unfolding header
+  fields-same layout solver =
       rw (
-        le-leb _ _ h,
-        le-leb _ _ k,
-        hex-same,
-        same header-digits (omega arith),
-        number-same 0 2 (omega arith),
         number-same 2 4 (omega arith),
         number-same 6 2 (omega arith),
         number-same 8 4 (omega arith),
@@ -66,17 +67,30 @@ module _ (s t : List ℕ) (same : (i : ℕ) → i < header-frame → getD s i 0 
         number-same 28 16 (omega arith),
       )
 
--- within the limits the rows end before the room does
-rows-end : {task : Task} → Limited most-cols most-rows task → frame-at (row-digits (task .cols)) (task .rows) < input-room
+  coded-same : (k : Coded) → head-by s k ≡ head-by t k
+  coded-same (By layout solver) = ap Good (fields-same layout solver)
+  coded-same Unknown = refl
+
+  head-same : header-frame ≤ length s → header-frame ≤ length t → head-of s ≡ head-of t
+  unfolding head-of header-formed
+  head-same h k =
+      rw (le-leb _ _ h, le-leb _ _ k, hex-same, same header-digits (omega arith), number-same 0 2 (omega arith), coded-same (by-code (number-at t 0 2)))
+
+-- within the limits the frames end before the room does, however theta is stored
+frames-end : (layout : Layout) (rows cols : ℕ) → rows ≤ most-rows → cols ≤ most-cols → frame-at (frame-digits layout rows cols) (frame-count layout rows cols) < input-room
 unfolding frame-at
-rows-end {task} l =
-    let wide : row-digits (task .cols) + 1 ≤ row-digits most-cols + 1 = omega (arith, l .few-cols) in
-    omega (arith, mul-le-mul (l .few-rows) wide)
+frames-end ByRows rows cols h k = let wide : 16 * (1 + cols) + 1 ≤ 16 * (1 + most-cols) + 1 = omega arith in omega (arith, mul-le-mul h wide)
+frames-end ByColumns rows cols h k =
+    let many : 1 + cols ≤ 1 + most-cols = omega arith in
+    let wide : 16 * rows + 1 ≤ 16 * most-rows + 1 = omega arith in
+    omega (arith, mul-le-mul many wide)
 
 -- so a longer input is malformed, if its header does not refuse it
-long-formed : (s : List ℕ) → input-room ≤ length s → (task : Task) → Limited most-cols most-rows task → rows-formed s task ≡ false
+long-formed : (s : List ℕ) → input-room ≤ length s → (task : Task) → Limited most-cols most-rows task → frames-fine s task ≡ false
 unfolding frames-formed
-long-formed s l task k = rw (ne-eqb (length s) (frame-at (row-digits (task .cols)) (task .rows)) (λ e. omega (arith, rows-end k))) refl
+long-formed s l task k =
+    let end = frames-end (task .layout) (task .rows) (task .cols) (k .few-rows) (k .few-cols) in
+    rw (ne-eqb (length s) (frame-at (task-digits task) (task-frames task)) (λ e. omega (arith, end))) refl
 
 -- a program that passes only tasks within the limits, and writes any lines of them
 module _ (before : Task → Answer) (lines : List ℕ → Task → List ℕ) (passed : (task : Task) → before task ≡ Done → Limited most-cols most-rows task) where

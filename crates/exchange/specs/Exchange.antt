@@ -6,41 +6,54 @@ use mathlib.Core.Bool.{Bool, true, not}
 use mathlib.Core.List.{List, _++_}
 use lib.ListN.{length, take, drop}
 use lib.Ieee.{Float}
-use Rattle.steps.specs.Table.{tab, table}
+use Rattle.steps.specs.Num.{Entry}
+use Rattle.steps.specs.Table.{tab}
 use Rattle.refusal.specs.Answers.{refuse-if, and-then}
 use Rattle.refusal.specs.declared.Answer.{Answer}
 use Rattle.refusal.specs.declared.Answer.the-variants.{Done, Refused}
 use Rattle.refusal.specs.declared.Refusal.the-variants.{Malformed}
+use Rattle.places.specs.Stored.{laid-out}
 use Rattle.rule.specs.Sizes.{Limited}
 use Rattle.rule.specs.declared.Task.{Task}
 use Rattle.reader.specs.Header.{head-of}
 use Rattle.reader.specs.Frames.{frames-formed}
-use Rattle.reader.specs.Rows.{row-digits, target, feature}
+use Rattle.reader.specs.Numbers.{frame-count, frame-digits, target, feature}
 use Rattle.reader.specs.declared.inner.header.Head.{Head}
 use Rattle.reader.specs.declared.inner.header.Head.the-variants.{Good, Wrong}
 use Rattle.writer.specs.Answer.{refusal-line}
 use Rattle.exchange.specs.Limits.{most-cols, most-rows}
 
--- a frame per row, and nothing after the last
-abbrev pub rows-formed : List ℕ → Task → Bool
-rows-formed s task = frames-formed s (task .rows) (row-digits (task .cols))
+-- how many frames follow the header, and the digits of each
+abbrev pub task-frames : Task → ℕ
+task-frames task = frame-count (task .layout) (task .rows) (task .cols)
+
+abbrev pub task-digits : Task → ℕ
+task-digits task = frame-digits (task .layout) (task .rows) (task .cols)
+
+-- these frames, and nothing after the last
+abbrev pub frames-fine : List ℕ → Task → Bool
+frames-fine s task = frames-formed s (task-frames task) (task-digits task)
 
 -- what was refused first, else malformed rows or tail
 unfoldable pub then-rows : Answer → List ℕ → Task → Answer
-then-rows first s task = and-then first (refuse-if (not (rows-formed s task)) Malformed Done)
+then-rows first s task = and-then first (refuse-if (not (frames-fine s task)) Malformed Done)
 
--- an accepted input: its task within the limits, its rows well formed
+-- an accepted input: its task within the limits, its frames well formed
 pub record Accepted (s : List ℕ) (task : Task) : Type 0 where
   pub limited : Limited most-cols most-rows task
-  pub formed : rows-formed s task ≡ true
+  pub formed : frames-fine s task ≡ true
 
--- theta of an input: the features by rows
+-- the matrix of an input: the features of each row
+abbrev pub matrix-asked : List ℕ → Task → Entry
+matrix-asked s task = feature s (task .layout) (task .rows) (task .cols)
+
+-- theta: that matrix as it is stored
 unfoldable pub theta-asked : List ℕ → Task → List Float
-theta-asked s task = table (task .rows) (task .cols) (feature s (task .cols))
+theta-asked s task = laid-out (task .layout) (task .rows) (task .cols) (matrix-asked s task)
 
 -- and its target: that of each row
 unfoldable pub target-asked : List ℕ → Task → List Float
-target-asked s task = tab (task .rows) (target s (task .cols))
+target-asked s task = tab (task .rows) (target s (task .layout) (task .rows) (task .cols))
 
 -- they were read, each to the head of its list
 pub record HasRead (s : List ℕ) (task : Task) (theta target : List Float) : Type 0 where

@@ -17,7 +17,7 @@ use Rattle.reader.specs.Header.{head-of}
 use Rattle.reader.specs.declared.inner.header.Head.the-variants.{Good, Wrong}
 use Rattle.writer.specs.Answer.{refusal-line}
 use Rattle.exchange.specs.Limits.{most-cols, most-rows}
-use Rattle.exchange.specs.Exchange.{rows-formed, then-rows, Accepted, answer-lines, answer-to, answer-by, Exchanged}
+use Rattle.exchange.specs.Exchange.{frames-fine, then-rows, Accepted, answer-lines, answer-to, answer-by, Exchanged}
 
 module _ (before : Task → Answer) (lines : List ℕ → Task → List ℕ) where
   -- a malformed header
@@ -35,7 +35,7 @@ pub then-accepted : {first : Answer} (s : List ℕ) (task : Task) → (first ≡
 unfolding then-rows
 then-accepted {first} s task passed e =
     let both = both-done first _ e in
-    let rows = not-refused (not (rows-formed s task)) Malformed Done (both .1) in
+    let rows = not-refused (not (frames-fine s task)) Malformed Done (both .1) in
     record { limited = passed (both .0); formed = not-false _ (rows .0) }
 
 -- an answer that is written from the first byte on

@@ -4,5 +4,6 @@ pub mod Exchange
 pub mod Laws
 pub mod Reading
 pub mod Room
+pub mod Layouts
 pub mod Cut
 pub mod Text

@@ -1,7 +1,8 @@
 -- The programs' own sizes: each follows from the first two. Assumes nothing.
 use Prim.Native.Nat.{ℕ, _+_, _*_}
+use Rattle.places.specs.declared.Layout.the-variants.{ByRows}
 use Rattle.reader.specs.Header.{header-frame}
-use Rattle.reader.specs.Rows.{row-digits}
+use Rattle.reader.specs.Numbers.{frame-digits}
 
 -- their own limits: 128 rows, 16 columns
 abbrev pub most-rows : ℕ
@@ -10,9 +11,9 @@ most-rows = 128
 abbrev pub most-cols : ℕ
 most-cols = 16
 
--- one byte more than the longest valid input has
+-- one byte more than the longest valid input has: theta by rows (by columns an input has fewer newlines)
 abbrev pub input-room : ℕ
-input-room = header-frame + most-rows * (row-digits most-cols + 1) + 1
+input-room = header-frame + most-rows * (frame-digits ByRows most-rows most-cols + 1) + 1
 
 -- the workspace of the largest fit: by least squares
 abbrev pub most-space : ℕ

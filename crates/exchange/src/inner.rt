@@ -1,4 +1,4 @@
-// An input of a bench program: the check of its rows, and theta and target read from them.
+// An input of a bench program: the check of its frames, and theta and target read from them.
 ghost use mathlib.Core.Path.{_≡_};
 ghost use Prim.Native.Nat.{_*_, _≤_};
 ghost use lib.ListN.{length};
@@ -7,9 +7,10 @@ ghost use Rattle.exchange.specs.Limits.{most-cols, most-rows};
 ghost use Rattle.exchange.specs.Exchange.{then-rows, Accepted, HasRead};
 use reader::inner::frames::formed;
 use reader::inner::header::FRAME;
-use reader::inner::rows::read_target;
-use reader::inner::rows::read_theta;
-use reader::inner::rows::row_digits;
+use reader::inner::numbers::frame_count;
+use reader::inner::numbers::frame_digits;
+use reader::inner::numbers::read_target;
+use reader::inner::numbers::read_theta;
 use refusal::Answer;
 use refusal::Refusal;
 use rule::Task;
@@ -19,7 +20,7 @@ pub const COLS: usize = 16;
 
 pub const ROWS: usize = 128;
 
-// One byte more than the longest valid input has: what a longer input has beyond it changes no answer (`cut-alike-by`).
+// One byte more than the longest valid input has, theta by rows: what a longer input has beyond it changes no answer (`cut-alike-by`).
 pub const INPUT: usize = FRAME + ROWS * (16 * (1 + COLS) + 1) + 1;
 
 // The largest theta, and the largest workspace: that of the largest task by least squares.
@@ -35,7 +36,10 @@ pub fn then_rows(first: Answer, s: &[u8], task: Task) -> Answer
     let Answer::Done = first else {
         return first;
     };
-    if !formed(s, task.rows, row_digits(task.cols)) {
+    let layout = task.layout;
+    let count = frame_count(layout, task.rows, task.cols);
+    let width = frame_digits(layout, task.rows, task.cols);
+    if !formed(s, count, width) {
         return Answer::Refused(Refusal::Malformed);
     }
     Answer::Done
@@ -46,6 +50,7 @@ pub fn read_rows(s: &[u8], task: Task, theta: &mut [f64], target: &mut [f64])
     requires { ⌜ Accepted (now s) task × (most-rows * most-cols ≤ length (now theta)) × (most-rows ≤ length (now target)) ⌝ }
     ensures { λ _. ⌜ HasRead (now (s .entry)) task (now (theta .exit)) (now (target .exit)) ⌝ }
 {
-    read_theta(s, task.rows, task.cols, theta);
-    read_target(s, task.rows, task.cols, target);
+    let layout = task.layout;
+    read_theta(s, layout, task.rows, task.cols, theta);
+    read_target(s, layout, task.rows, task.cols, target);
 }

@@ -69,3 +69,35 @@ row-short = refl
 pub tail : answer-of (text "01000100000a3fe00000000000000000000000000000\n3ff0000000000000\n\n") ≡ text "ff0b\n"
 unfolding framed
 tail = refl
+
+-- by columns the limits come first too, and 14 is no solver's code
+pub solver-11 : answer-of (text "11ffffffffff3fe00000000000000000000000000000\n") ≡ text "ff01\n"
+unfolding framed
+solver-11 = refl
+
+pub solver-14 : answer-of (text "14ffffffffff3fe00000000000000000000000000000\n") ≡ text "ff0b\n"
+unfolding framed
+solver-14 = refl
+
+-- with no rows and two columns three empty lines follow: none is too few, and so are two; four are too many
+pub no-empty-lines : answer-of (text "11000002000a3fe00000000000000000000000000000\n") ≡ text "ff0b\n"
+unfolding framed
+no-empty-lines = refl
+
+pub two-empty-lines : answer-of (text "12000002000a3fe00000000000000000000000000000\n\n\n") ≡ text "ff0b\n"
+unfolding framed
+two-empty-lines = refl
+
+pub four-empty-lines : answer-of (text "13000002000a3fe00000000000000000000000000000\n\n\n\n\n") ≡ text "ff0b\n"
+unfolding framed
+four-empty-lines = refl
+
+-- no columns: the targets' frame alone, which must be there
+pub no-targets : answer-of (text "11000200000a3fe00000000000000000000000000000\n") ≡ text "ff0b\n"
+unfolding framed
+no-targets = refl
+
+-- three rows of one column stored by rows, under a code by columns
+pub rows-by-columns : answer-of (text "11000301000a3fe00000000000000000000000000000\n40080000000000003ff0000000000000\n40080000000000003ff0000000000000\n40080000000000003ff0000000000000\n") ≡ text "ff0b\n"
+unfolding framed
+rows-by-columns = refl

@@ -1,15 +1,17 @@
 -- A walk over the listed terms of a row, and over the rows: what the sums are before the first, and after more. Assumes nothing.
 use mathlib.Core.Path.{_≡_, sym, ap, ap₂, _∙_}
 use mathlib.Core.List.{List}
-use Prim.Native.Nat.{ℕ, _+_}
+use Prim.Native.Nat.{ℕ, _+_, _<_}
 use native.Mathlib.Nat.{add-zero}
 use native.Mathlib.Omega.{arith}
 use lib.ListN.{getD}
 use lib.Ieee.{Float}
 use Rattle.steps.specs.Num.{plus, less, times, +zero, at, Entry}
-use Rattle.steps.specs.Sums.{sum, sum-none, sum-more, sum-on}
+use Rattle.steps.specs.Sums.{sum, sum-none, sum-more, sum-cong, sum-on}
+use Rattle.steps.specs.Space.{cleared, at-cleared}
+use Rattle.steps.specs.Wrote.{Wrote}
 use Rattle.places.specs.Columns.{listed}
-use Rattle.leftover.specs.Error.{products, leftover, square, squares, listed-coeffs}
+use Rattle.leftover.specs.Error.{products, RowSums, leftover, square, squares, listed-coeffs}
 
 -- what stands at the term of a place is what is listed there
 pub entry-listed : (table : List ℕ) (e : Entry) (i p : ℕ) {j : ℕ} {x : Float} → j ≡ getD table p 0 → x ≡ e i j → x ≡ listed table e i p
@@ -61,3 +63,21 @@ module _ (k : ℕ) (e : Entry) (t cs : ℕ → Float) where
   -- the last row is passed
   pub rows-end : (i rows : ℕ) {z : Float} → z ≡ squares i k e t cs → i ≡ rows → z ≡ squares rows k e t cs
   rows-end i rows p q = p ∙ ap (λ (m : ℕ). squares m k e t cs) q
+
+-- the sums of h rows side by side: before the first term, after one more, and their squares
+module _ (e : Entry) (cs : ℕ → Float) (i h : ℕ) where
+  pub sums-none : (s : List Float) → RowSums 0 e cs i h (cleared h s)
+  sums-none s = record { each = λ m l. at-cleared h m s l ∙ products-none (e (i + m)) cs }
+
+  pub sums-more : (p : ℕ) (s s' : List Float) (column : ℕ → Float) {x : Float} → RowSums p e cs i h s → Wrote (λ m. m) 0 h (λ m. plus (at s m) (times (column m) x)) s s'
+      → ((m : ℕ) → column m ≡ e (i + m) p) → x ≡ cs p → RowSums (p + 1) e cs i h s'
+  sums-more p s s' column was w is-column is-x = record { each = λ m l. w .done m (omega arith) l ∙ products-more (e (i + m)) cs p (was .each m l) (is-column m) is-x }
+
+  pub page-more : (k : ℕ) (t : ℕ → Float) (s : List Float) {z r : Float} → RowSums k e cs i h s → z ≡ squares i k e t cs → r ≡ sum z 0 h (λ m. square (less (t (i + m)) (at s m)))
+      → r ≡ squares (i + h) k e t cs
+  unfolding squares leftover
+  page-more k t s {z} o p q =
+      q
+      ∙ sum-cong z 0 h _ _ (λ m a l. ap (λ (x : Float). square (less (t (i + m)) x)) (o .each m l))
+      ∙ ap (λ (x : Float). sum x 0 h (λ m. square (leftover k e t cs (i + m)))) p
+      ∙ sym (sum-on +zero i h _)

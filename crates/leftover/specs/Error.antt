@@ -1,5 +1,6 @@
 -- The leftover error of a fit, by order 7's sentence. A matrix that is only read is a way to find its entries. Assumes nothing.
-use Prim.Native.Nat.{ℕ}
+use mathlib.Core.Path.{_≡_}
+use Prim.Native.Nat.{ℕ, _+_, _<_}
 use mathlib.Core.List.{List}
 use lib.Count.{ones}
 use lib.ListN.{getD}
@@ -12,6 +13,10 @@ use Rattle.places.specs.Columns.{columns}
 -- the products of a row's k numbers and their coefficients, rising, from +0.0
 unfoldable pub products : ℕ → (ℕ → Float) → (ℕ → Float) → Float
 products k row cs = sum +zero 0 k (λ p. times (row p) (cs p))
+
+-- numbers that are the products of the h rows from row i on
+pub record RowSums (k : ℕ) (e : Entry) (cs : ℕ → Float) (i h : ℕ) (s : List Float) : Type 0 where
+  pub each : (m : ℕ) → m < h → at s m ≡ products k (e (i + m)) cs
 
 -- the target less that sum, in row i
 unfoldable pub leftover : ℕ → Entry → (ℕ → Float) → (ℕ → Float) → ℕ → Float

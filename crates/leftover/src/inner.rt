@@ -1,11 +1,16 @@
 // The squared error that the kept terms leave, in one walk over the rows: four at a time, so that no sum waits for another's. Columns that are not kept are not read.
+pub mod columns;
+
 ghost use mathlib.Core.Path.{_≡_};
 ghost use Prim.Native.Nat.{_+_, _*_, _≤_, _<_};
 ghost use lib.ListN.{length};
 ghost use Rattle.steps.specs.Num.{plus, less, at, cell};
 ghost use Rattle.steps.specs.Sums.{sum};
+ghost use Rattle.places.specs.Stored.{stored};
 ghost use Rattle.places.specs.Columns.{Within, Listed, listed};
 ghost use Rattle.leftover.specs.Error.{square, products, leftover, squares, squared-error, listed-coeffs};
+use crate::inner::columns::walk_columns;
+use places::Layout;
 use places::inner::at_place;
 use places::inner::at_term;
 use places::inner::list_terms;
@@ -15,7 +20,7 @@ use support::Support;
 use support::Term;
 
 // The coefficient of a term, never of a reduced place.
-fn coeff_of(coeffs: &[f64], term_idx: Term) -> f64
+pub fn coeff_of(coeffs: &[f64], term_idx: Term) -> f64
     requires { ⌜ «term_idx» .0 < length (now coeffs) ⌝ }
     ensures { λ r. ⌜ r ≡ at (now (coeffs .entry)) («term_idx» .0) ⌝ }
 {
@@ -24,7 +29,7 @@ fn coeff_of(coeffs: &[f64], term_idx: Term) -> f64
 }
 
 // A row more: the target less the row's products, squared.
-fn add_square(error: f64, target: f64, sum: f64) -> f64
+pub fn add_square(error: f64, target: f64, sum: f64) -> f64
     ensures { λ r. ⌜ r ≡ plus error (square (less target sum)) ⌝ }
 {
     let d = target - sum;
@@ -139,8 +144,29 @@ fn walk(
     error
 }
 
+// All rows of theta, as it is stored.
+fn walk_stored(
+    layout: Layout,
+    theta: &[f64],
+    target: &[f64],
+    n_rows: usize,
+    n_cols: usize,
+    terms: &[usize],
+    k: usize,
+    coeffs: &[f64],
+) -> f64
+    requires { ⌜ Listed «n_rows» «n_cols» k (now terms) (now theta) × (length (now target) ≡ «n_rows») × (length (now coeffs) ≡ «n_cols») ⌝ }
+    ensures { λ r. ⌜ r ≡ squares «n_rows» k (listed (now (terms .entry)) (stored layout «n_rows» «n_cols» (now (theta .entry)))) (at (now (target .entry))) (listed-coeffs (now (terms .entry)) (now (coeffs .entry))) ⌝ }
+{
+    match layout {
+        Layout::ByRows => walk(theta, target, n_rows, n_cols, terms, k, coeffs),
+        Layout::ByColumns => walk_columns(theta, target, n_rows, n_cols, terms, k, coeffs),
+    }
+}
+
 // The squared error that the kept terms leave.
 pub fn squared_error(
+    layout: Layout,
     theta: &[f64],
     target: &[f64],
     n_rows: usize,
@@ -149,9 +175,18 @@ pub fn squared_error(
     coeffs: &[f64],
 ) -> f64
     requires { ⌜ Within (now theta) «n_rows» «n_cols» (kept .0) × (length (now target) ≡ «n_rows») × (length (now coeffs) ≡ «n_cols») ⌝ }
-    ensures { λ r. ⌜ r ≡ squared-error «n_rows» «n_cols» (cell «n_cols» (now (theta .entry))) (at (now (target .entry))) (kept .0) (now (coeffs .entry)) ⌝ }
+    ensures { λ r. ⌜ r ≡ squared-error «n_rows» «n_cols» (stored layout «n_rows» «n_cols» (now (theta .entry))) (at (now (target .entry))) (kept .0) (now (coeffs .entry)) ⌝ }
 {
     let mut terms = [0usize; 64];
     list_terms(kept, n_cols, &mut terms);
-    walk(theta, target, n_rows, n_cols, &terms, kept.count(), coeffs)
+    walk_stored(
+        layout,
+        theta,
+        target,
+        n_rows,
+        n_cols,
+        &terms,
+        kept.count(),
+        coeffs,
+    )
 }

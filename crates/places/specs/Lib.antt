@@ -1,3 +1,5 @@
--- The columns of theta at the reduced places of a support. Assumes nothing.
+-- How theta is stored, and its columns at the reduced places of a support. Assumes nothing.
+pub mod Stored
+pub mod Down
 pub mod Columns
 pub mod ColumnLaws

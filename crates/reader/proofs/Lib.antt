@@ -1,4 +1,5 @@
 -- Laws of the frames of an input. Assumes nothing.
 mod HeaderLaws
 mod FrameLaws
-mod RowLaws
+mod NumberLaws
+mod Layouts

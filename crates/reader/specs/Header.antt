@@ -5,9 +5,12 @@ use mathlib.Core.List.{List}
 use lib.Dec.{leb, eqb}
 use lib.ListN.{length, getD}
 use Rattle.hex.specs.Hex.{all-hex, number-at, float, newline}
-use Rattle.rule.specs.Tasks.{setup-of, task-of}
+use Rattle.places.specs.declared.Layout.{Layout}
+use Rattle.rule.specs.Codes.{by-code}
+use Rattle.rule.specs.Tasks.{setup-of, task-of, laid}
+use Rattle.rule.specs.declared.Coded.{Coded}
+use Rattle.rule.specs.declared.Coded.the-variants.{By, Unknown}
 use Rattle.rule.specs.declared.Solver.{Solver}
-use Rattle.rule.specs.declared.Solver.the-variants.{Normal, Qr, Marquardt}
 use Rattle.rule.specs.declared.Task.{Task}
 use Rattle.reader.specs.declared.inner.header.Head.{Head}
 use Rattle.reader.specs.declared.inner.header.Head.the-variants.{Good, Wrong}
@@ -23,16 +26,15 @@ header-frame = header-digits + 1
 unfoldable pub header-formed : List ℕ → Bool
 header-formed s = leb header-frame (length s) && (all-hex s 0 header-digits && eqb (getD s header-digits 0) newline)
 
--- after the solver: rows (4), columns (2), max_iter (4), threshold (16), lambda (16)
-unfoldable pub header : List ℕ → Solver → Task
-header s solver = task-of solver (number-at s 2 4) (number-at s 6 2) (setup-of (float s 12) (float s 28) (number-at s 8 4))
+-- after the solver's code: rows (4), columns (2), max_iter (4), threshold (16), lambda (16)
+unfoldable pub header : List ℕ → Layout → Solver → Task
+header s layout solver = laid layout (task-of solver (number-at s 2 4) (number-at s 6 2) (setup-of (float s 12) (float s 28) (number-at s 8 4)))
 
--- solver (2): 01 normal, 02 QR, 03 normal damped in proportion, else malformed
+-- a code that stands for no solver and layout is malformed
+abbrev pub head-by : List ℕ → Coded → Head
+head-by s (By layout solver) = Good (header s layout solver)
+head-by s Unknown = Wrong
+
+-- solver (2), by its code
 unfoldable pub head-of : List ℕ → Head
-head-of s =
-    cond (header-formed s)
-    (cond (eqb (number-at s 0 2) 1) (Good (header s Normal))
-    (cond (eqb (number-at s 0 2) 2) (Good (header s Qr))
-    (cond (eqb (number-at s 0 2) 3) (Good (header s Marquardt))
-    Wrong)))
-    Wrong
+head-of s = cond (header-formed s) (head-by s (by-code (number-at s 0 2))) Wrong

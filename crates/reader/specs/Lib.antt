@@ -1,4 +1,4 @@
 -- The frames of an input. Assumes nothing.
 pub mod Header
 pub mod Frames
-pub mod Rows
+pub mod Numbers

@@ -1,4 +1,4 @@
 // A reader of frames may require what its caller has tested.
 pub mod frames;
 pub mod header;
-pub mod rows;
+pub mod numbers;

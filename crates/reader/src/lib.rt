@@ -1,2 +1,2 @@
-// The header and the rows of an input, for the exchange: nothing here is a public call.
+// The header and the numbers of an input, for the exchange: nothing here is a public call.
 pub mod inner;

@@ -15,6 +15,7 @@ use Rattle.least.specs.Least.{least}
 use Rattle.rule.specs.Fits.{padded, by-least, problem, problem-of, matrix-of, solves}
 use Rattle.rule.specs.declared.Task.{Task}
 use Rattle.rule.specs.declared.Solver.the-variants.{Qr}
+use Rattle.places.specs.Stored.{stored}
 use Rattle.augment.specs.Ridged.{qr-matrix}
 use Rattle.refit.specs.Parts.{Counted}
 use Rattle.refit.proofs.Large.{cells, both}
@@ -32,7 +33,7 @@ length-head n l h = rw sub-zero (simp length-take (omega arith))
 
 -- a is made as QR's matrix at the head of a slice of just this room, b as its right-hand side behind it
 module _ {task : Task} {theta target : List Float} {w k : ℕ} (s : Counted task theta target w k) (ws : List Float) (l : length ws ≡ both task k)
-    {a : List Float} (is-a : a ≡ qr-matrix (task .rows) (task .cols) w (task .setup .lambda) theta) where
+    {a : List Float} (is-a : a ≡ qr-matrix (task .rows) (task .cols) w (task .setup .lambda) (stored (task .layout) (task .rows) (task .cols) theta)) where
   length-a : length a ≡ cells task k
   length-a = rw (s .count, is-a) (length-table _ _ _)
 

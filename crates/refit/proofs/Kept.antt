@@ -6,7 +6,7 @@ use native.Mathlib.Omega.{arith}
 use lib.ListN.{length, take, drop}
 use lib.Seq.{length-take-le, take-take, take-at, take-append-le}
 use lib.Ieee.{Float}
-use Rattle.steps.specs.Num.{at, cell}
+use Rattle.steps.specs.Num.{at}
 use Rattle.steps.specs.Space.{withPart}
 use Rattle.sums.specs.Products.{gram, moment}
 use Rattle.sums.specs.Inner.{damps}
@@ -36,8 +36,7 @@ module _ (n e : ℕ) (ws : List Float) (in-it : kept-size n ≤ e) (fits : e ≤
 -- what the first pass left is kept
 module _ (task : Task) (theta target : List Float) where
   pub kept-now : (sums rest : List Float) → length sums ≡ kept-size (task .cols)
-      → sums ≡ kept-sums (task .cols) (gram (cell (task .cols) theta) (task .rows)) (moment (cell (task .cols) theta) (at target) (task .rows)) → Kept task theta target (sums ++ rest)
-  unfolding matrix-of
+      → sums ≡ kept-sums (task .cols) (gram (matrix-of task theta) (task .rows)) (moment (matrix-of task theta) (at target) (task .rows)) → Kept task theta target (sums ++ rest)
   kept-now sums rest long e = record { sums = λ not. take-at sums rest (kept-size (task .cols)) long ∙ e }
 
   pub kept-on : (ws ws' : List Float) → take (kept-size (task .cols)) ws' ≡ take (kept-size (task .cols)) ws → Kept task theta target ws → Kept task theta target ws'
@@ -46,7 +45,7 @@ module _ (task : Task) (theta target : List Float) where
   -- and a solve from it, by a solver that solves so, is that of the support's columns
   pub kept-is : {d : Damping} → FromSums (task .solver) (task .setup .lambda) d → (ws : List Float) (w : ℕ) → Kept task theta target ws → w < 2 ^ task .cols
       → from-kept (damps d) (task .cols) ws w ≡ problem-of task theta target .solve w
-  unfolding problem matrix-of
+  unfolding problem
   kept-is {d} from ws w k b =
       rw (from .solve (at target) (task .rows)) (kept-solves (damps d) (task .cols) (matrix-of task theta) (at target) (task .rows) ws w b (k .sums (from .not-qr)))
 

@@ -30,9 +30,10 @@ pub fn keep(task: Task, theta: &[f64], target: &[f64], ws: &mut [f64])
     let setup = task.setup;
     match method_of(solver, setup.lambda) {
         Method::Sums(_) => {
+            let layout = task.layout;
             let n_cols = task.cols;
             let h = n_cols * n_cols + n_cols;
-            keep_sums(theta, target, task.rows, n_cols, &mut ws[0..h]);
+            keep_sums(layout, theta, target, task.rows, n_cols, &mut ws[0..h]);
         }
         Method::Rows => {}
     }

@@ -5,10 +5,11 @@ use mathlib.Core.List.{List}
 use lib.Count.{ones}
 use lib.Dec.{eqb, ltb}
 use lib.Ieee.{Float, lt, le}
-use Rattle.steps.specs.Num.{+zero, at, Entry, cell}
+use Rattle.steps.specs.Num.{+zero, at, Entry}
 use Rattle.steps.specs.Table.{tab, table}
 use Rattle.float64.specs.Root.{rootOf, absOf}
 use Rattle.refusal.specs.Answers.{Solution, solution}
+use Rattle.places.specs.Stored.{stored}
 use Rattle.places.specs.Columns.{columns}
 use Rattle.sums.specs.Products.{gram, moment, ridge, marquardt, jtj-matrix, jtr-column}
 use Rattle.normal.specs.Normal.{normal}
@@ -77,9 +78,9 @@ problem-by task e t = problem task (solves (task .solver) (task .setup .lambda) 
 unfoldable pub fit-by : Task → Entry → (ℕ → Float) → Fit
 fit-by task e t = fit (problem-by task e t) (task .setup .«max_iter»)
 
--- the matrix that theta holds: by rows
+-- the matrix that theta holds, as the task says that it is stored
 unfoldable pub matrix-of : Task → List Float → Entry
-matrix-of task theta = cell (task .cols) theta
+matrix-of task theta = stored (task .layout) (task .rows) (task .cols) theta
 
 -- the same of theta and target as a call is lent them
 abbrev pub problem-of : Task → List Float → List Float → Problem

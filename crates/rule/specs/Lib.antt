@@ -19,6 +19,7 @@ pub mod Rounded
 pub mod RightSides
 pub mod Values
 pub mod SameFit
+pub mod Layouts
 pub mod Made
 pub mod Errors
 pub mod Threshold

@@ -48,7 +48,7 @@ module _ (P : Problem) (a : Solution) (f : ℕ → Solution) (g : ℕ → List F
   same-first (solved vs) = refl
   same-first (refused c) = refl
 
-  same-rounds : (r : ℕ) → rounds P r ≡ rounds Q r
+  pub same-rounds : (r : ℕ) → rounds P r ≡ rounds Q r
   unfolding rounds start
   same-rounds zero =
       let none = done NoData (zeros (P .cols)) [] in
@@ -76,15 +76,24 @@ columns-cong : (n w : ℕ) (e f : Entry) (i p : ℕ) → ((j : ℕ) → j < n �
 unfolding columns
 columns-cong n w e f i p h b = h (term n w p) b
 
--- a fit looks only at the entries of its rows and columns
-pub fit-entries : (task : Task) (e f : Entry) (t : ℕ → Float) → ((i j : ℕ) → i < task .rows → j < task .cols → e i j ≡ f i j) → fit-by task e t ≡ fit-by task f t
-unfolding fit-by problem
-fit-entries task e f t h =
-    same-fit (problem-by task e t) _ _ _
-    (solves-cong (task .rows) (task .cols) e f h (task .solver) (task .setup .lambda) t)
-    (λ w b. solves-cong (task .rows) (ones w) (columns (task .cols) w e) (columns (task .cols) w f) (cols w b) (task .solver) (task .setup .lambda) t)
-    (λ w cs b. error-cong (task .rows) (task .cols) e f t w cs b h)
-    (task .setup .«max_iter»)
-  where
-    cols : (w : ℕ) → w < 2 ^ task .cols → (i p : ℕ) → i < task .rows → p < ones w → columns (task .cols) w e i p ≡ columns (task .cols) w f i p
-    cols w b i p l k = columns-cong (task .cols) w e f i p (λ j a. h i j l a) (term-below (task .cols) w p b k)
+-- the problems of two matrices with the same entries in their rows and columns agree
+module _ (task : Task) (e f : Entry) (t : ℕ → Float) (h : (i j : ℕ) → i < task .rows → j < task .cols → e i j ≡ f i j) where
+  pub whole-agrees : problem-by task e t .whole ≡ problem-by task f t .whole
+  unfolding problem
+  whole-agrees = solves-cong (task .rows) (task .cols) e f h (task .solver) (task .setup .lambda) t
+
+  pub solve-agrees : (w : ℕ) → w < 2 ^ task .cols → problem-by task e t .solve w ≡ problem-by task f t .solve w
+  unfolding problem
+  solve-agrees w b = solves-cong (task .rows) (ones w) (columns (task .cols) w e) (columns (task .cols) w f) cols (task .solver) (task .setup .lambda) t
+    where
+      cols : (i p : ℕ) → i < task .rows → p < ones w → columns (task .cols) w e i p ≡ columns (task .cols) w f i p
+      cols i p l k = columns-cong (task .cols) w e f i p (λ j a. h i j l a) (term-below (task .cols) w p b k)
+
+  pub error-agrees : (w : ℕ) (cs : List Float) → w < 2 ^ task .cols → problem-by task e t .error w cs ≡ problem-by task f t .error w cs
+  unfolding problem
+  error-agrees w cs b = error-cong (task .rows) (task .cols) e f t w cs b h
+
+  -- so a fit looks only at the entries of its rows and columns
+  pub fit-entries : fit-by task e t ≡ fit-by task f t
+  unfolding fit-by problem
+  fit-entries = same-fit (problem-by task e t) _ _ _ whole-agrees solve-agrees error-agrees (task .setup .«max_iter»)

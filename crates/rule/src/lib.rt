@@ -2,7 +2,8 @@
 pub mod inner;
 
 ghost use mathlib.Core.Path.{_≡_};
-ghost use Rattle.rule.specs.Codes.{fitted-number, stop-code, stop-term};
+ghost use Rattle.rule.specs.Codes.{by-code, fitted-number, stop-code, stop-term};
+use places::Layout;
 use refusal::Refusal;
 use refusal::number;
 use support::Support;
@@ -22,9 +23,10 @@ pub enum Solver {
     Marquardt,
 }
 
-// What a fit is asked for: how it solves, theta's sizes, and the setup. A header says just this.
+// What a fit is asked for: how it solves, how theta is stored, theta's sizes, and the setup. A header says just this.
 pub struct Task {
     pub solver: Solver,
+    pub layout: Layout,
     pub rows: usize,
     pub cols: usize,
     pub setup: Setup,
@@ -58,6 +60,37 @@ pub struct Report {
 pub enum Fitted {
     Fit(Report),
     Refused(Refusal),
+}
+
+// What a header's code stands for.
+pub enum Coded {
+    By(Layout, Solver),
+    Unknown,
+}
+
+// The codes of the solvers with theta by rows, and a sixteen more each with theta by columns.
+pub fn by_code(code: u64) -> Coded
+    ensures { λ r. ⌜ r ≡ by-code code ⌝ }
+{
+    if code == 0x01 {
+        return Coded::By(Layout::ByRows, Solver::Normal);
+    }
+    if code == 0x02 {
+        return Coded::By(Layout::ByRows, Solver::Qr);
+    }
+    if code == 0x03 {
+        return Coded::By(Layout::ByRows, Solver::Marquardt);
+    }
+    if code == 0x11 {
+        return Coded::By(Layout::ByColumns, Solver::Normal);
+    }
+    if code == 0x12 {
+        return Coded::By(Layout::ByColumns, Solver::Qr);
+    }
+    if code == 0x13 {
+        return Coded::By(Layout::ByColumns, Solver::Marquardt);
+    }
+    Coded::Unknown
 }
 
 // The code of a stop in document 01.

@@ -5,7 +5,7 @@ use mathlib.Core.List.{List}
 use Prim.Native.Nat.{ℕ}
 use lib.ListN.{length}
 use lib.Ieee.{Float}
-use Rattle.steps.specs.Num.{+zero, at, cell}
+use Rattle.steps.specs.Num.{+zero, at}
 use Rattle.steps.specs.Space.{cleared}
 use Rattle.steps.specs.Table.{tab}
 use Rattle.support.specs.Word.{word}
@@ -43,16 +43,16 @@ module _ (task : Task) (theta target : List Float) where
   pub reports : (stop : Stop) (refits : ℕ) (kept : Support) (error : Float) (cs : List Float) → length cs ≡ task .cols
       → Ends (fit-of task theta target) stop refits cs
       → kept .0 ≡ word (λ j. keeps (task .setup) j (at cs j)) (length cs)
-      → error ≡ squared-error (task .rows) (task .cols) (cell (task .cols) theta) (at target) (kept .0) cs
+      → error ≡ squared-error (task .rows) (task .cols) (matrix-of task theta) (at target) (kept .0) cs
       → record { stop = stop; refits = refits; kept = kept; error = error } ≡ report-of (fit-of task theta target)
-  unfolding fit-by matrix-of problem support
+  unfolding fit-by problem support
   reports stop refits kept error cs l f k q =
       let P = problem-of task theta target in
       let fit = fit-of task theta target in
       let word-of : kept .0 ≡ fit .kept
       = k ∙ ap (word _) l ∙ ap (λ (c : List Float). word (λ j. keeps (task .setup) j (at c j)) (task .cols)) (f .coeffs) ∙ sym (kept-is P (task .setup .«max_iter»)) in
       let error-of : error ≡ fit .error
-      = q ∙ ap₂ (squared-error (task .rows) (task .cols) (cell (task .cols) theta) (at target)) word-of (f .coeffs) ∙ sym (error-is task (cell (task .cols) theta) (at target)) in
+      = q ∙ ap₂ (squared-error (task .rows) (task .cols) (matrix-of task theta) (at target)) word-of (f .coeffs) ∙ sym (error-is task (matrix-of task theta) (at target)) in
       rw (f .stop, f .refits) (ap₂ (λ (w : ℕ) (x : Float). record { stop = fit .stop; refits = fit .refits; kept = record { 0 = w }; error = x }) word-of error-of)
 
   -- a refusal leaves all unchanged

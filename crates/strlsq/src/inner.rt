@@ -98,8 +98,9 @@ pub fn report(
     ensures { λ r. ⌜ r ≡ report-of (fit-of task (now (theta .entry)) (now (target .entry))) ⌝ }
 {
     let setup = task.setup;
+    let layout = task.layout;
     let kept = support_of(coeffs, setup);
-    let error = squared_error(theta, target, task.rows, task.cols, kept, coeffs);
+    let error = squared_error(layout, theta, target, task.rows, task.cols, kept, coeffs);
     Report {
         stop,
         refits,

@@ -1,8 +1,9 @@
-// The three fits, over one loop.
+// The three fits, over one loop: of theta by rows, and by columns.
 pub mod inner;
 
-ghost use Rattle.rule.specs.Tasks.{task-of};
+ghost use Rattle.rule.specs.Tasks.{task-of, by-columns};
 ghost use Rattle.rule.specs.Calls.{FitCall};
+use places::Layout;
 use rule::Fitted;
 use rule::Setup;
 use rule::Solver;
@@ -23,6 +24,7 @@ pub fn strlsq(
 {
     let task = Task {
         solver: Solver::Normal,
+        layout: Layout::ByRows,
         rows: n_rows,
         cols: n_cols,
         setup,
@@ -45,6 +47,7 @@ pub fn strlsq_qr(
 {
     let task = Task {
         solver: Solver::Qr,
+        layout: Layout::ByRows,
         rows: n_rows,
         cols: n_cols,
         setup,
@@ -67,6 +70,76 @@ pub fn strlsq_marquardt(
 {
     let task = Task {
         solver: Solver::Marquardt,
+        layout: Layout::ByRows,
+        rows: n_rows,
+        cols: n_cols,
+        setup,
+    };
+    inner::fit(task, theta, target, coeffs, workspace)
+}
+
+// The fit by the normal equations, of theta by columns.
+pub fn strlsq_by_columns(
+    theta: &[f64],
+    n_rows: usize,
+    n_cols: usize,
+    target: &[f64],
+    setup: Setup,
+    coeffs: &mut [f64],
+    workspace: &mut [f64],
+) -> Fitted
+    ensures { λ r. ⌜ FitCall (by-columns (task-of Solver.Normal «n_rows» «n_cols» setup)) (now (theta .entry)) (now (target .entry))
+        (now (coeffs .entry)) (now (coeffs .exit)) (now (workspace .entry)) (now (workspace .exit)) r ⌝ }
+{
+    let task = Task {
+        solver: Solver::Normal,
+        layout: Layout::ByColumns,
+        rows: n_rows,
+        cols: n_cols,
+        setup,
+    };
+    inner::fit(task, theta, target, coeffs, workspace)
+}
+
+// That by least squares, of theta by columns.
+pub fn strlsq_qr_by_columns(
+    theta: &[f64],
+    n_rows: usize,
+    n_cols: usize,
+    target: &[f64],
+    setup: Setup,
+    coeffs: &mut [f64],
+    workspace: &mut [f64],
+) -> Fitted
+    ensures { λ r. ⌜ FitCall (by-columns (task-of Solver.Qr «n_rows» «n_cols» setup)) (now (theta .entry)) (now (target .entry))
+        (now (coeffs .entry)) (now (coeffs .exit)) (now (workspace .entry)) (now (workspace .exit)) r ⌝ }
+{
+    let task = Task {
+        solver: Solver::Qr,
+        layout: Layout::ByColumns,
+        rows: n_rows,
+        cols: n_cols,
+        setup,
+    };
+    inner::fit(task, theta, target, coeffs, workspace)
+}
+
+// That by the normal equations damped in proportion, of theta by columns.
+pub fn strlsq_marquardt_by_columns(
+    theta: &[f64],
+    n_rows: usize,
+    n_cols: usize,
+    target: &[f64],
+    setup: Setup,
+    coeffs: &mut [f64],
+    workspace: &mut [f64],
+) -> Fitted
+    ensures { λ r. ⌜ FitCall (by-columns (task-of Solver.Marquardt «n_rows» «n_cols» setup)) (now (theta .entry)) (now (target .entry))
+        (now (coeffs .entry)) (now (coeffs .exit)) (now (workspace .entry)) (now (workspace .exit)) r ⌝ }
+{
+    let task = Task {
+        solver: Solver::Marquardt,
+        layout: Layout::ByColumns,
         rows: n_rows,
         cols: n_cols,
         setup,

@@ -15,6 +15,7 @@ use Rattle.steps.specs.Table.{table, is-table, is-tab}
 use Rattle.steps.specs.Rows.{Rows}
 use Rattle.steps.specs.Wrote.{Wrote}
 use Rattle.pairs.specs.Grown.{grown, Grew}
+use Rattle.places.specs.Down.{HoldsAt}
 use Rattle.sums.specs.Products.{gram, moment, jtr-column}
 use Rattle.sums.specs.ProductLaws.{gram-both}
 use Rattle.sums.specs.Inner.{Filled}
@@ -28,6 +29,10 @@ holds-rows theta n i h m page page' all w =
           let e : i * n + (k * n + c) ≡ (i + k) * n + c = omega arith in
           w .done (k * n + c) (omega arith) (omega (arith, digits-lt hk hc)) ∙ ap (at theta) e;
     }
+
+-- all its columns, one after another
+pub holds-columns : (e : Entry) (n i h m : ℕ) (page : List Float) → n ≤ m → HoldsAt (λ c. c) m e n i h page → Holds e n i h page
+holds-columns e n i h m page all o = record { each = λ k c hk hc. o .each k c hk (omega arith) }
 
 -- all of theta is a page of its own
 pub holds-all : (theta : List Float) (n h : ℕ) → Holds (cell n theta) n 0 h theta

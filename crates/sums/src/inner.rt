@@ -1,4 +1,5 @@
 // The sums of the normal equations over all columns of a matrix, undamped, and the damping. Each function may require what its caller tested.
+pub mod columns;
 pub mod mirror;
 pub mod pages;
 pub mod walk;

@@ -6,6 +6,7 @@ use lib.Ieee.{Float, nan}
 use lib.Count.{ones}
 use Rattle.steps.specs.Num.{lit, +zero, one, -one, two}
 use Rattle.support.specs.Word as W
+use Rattle.places.specs.Stored as S
 use Rattle.places.specs.Columns as C
 use Rattle.leftover.specs.Error as E
 use Rattle.sums.specs.Products as P
@@ -23,7 +24,7 @@ use Rattle.table.specs.Solvers.{opened, three}
 -- all that a fit computes with
 unfoldable pub fits : Unit {0}
 unfolding opened ones W.has W.count W.word W.terms W.place W.term
-    C.columns E.products E.leftover E.squares E.squared-error P.gram P.moment P.ridge P.marquardt P.damped P.jtj-matrix P.jtr-column
+    S.stored C.columns E.products E.leftover E.squares E.squared-error P.gram P.moment P.ridge P.marquardt P.damped P.jtj-matrix P.jtr-column
     R.support R.scatter R.refit R.look R.round R.first R.start R.rounds R.pruned R.reported R.last-look R.finish R.fit
     F.keeps F.clears F.by-sums F.by-normal F.augmented F.padded F.by-least F.solves F.problem F.fit-by F.matrix-of
 fits = tt

@@ -12,4 +12,5 @@ pub mod TrueCause
 pub mod OnlyCause
 pub mod Promises
 pub mod TrueCalls
+pub mod Layouts
 pub mod Examples

@@ -1,4 +1,6 @@
 // The refusals of the question why, and the cause of the term that a fit watched.
+pub mod call;
+
 ghost use mathlib.Core.Path.{_≡_};
 ghost use Rattle.rule.specs.Fits.{keeps};
 ghost use Rattle.why.specs.Cause.{by-value, undropped, caused};

@@ -2,16 +2,16 @@
 pub mod inner;
 
 ghost use mathlib.Core.Path.{_≡_};
-ghost use Rattle.rule.specs.Tasks.{task-of};
+ghost use Rattle.rule.specs.Tasks.{task-of, by-columns};
 ghost use Rattle.why.specs.Codes.{cause-code, cause-refit, cause-value, caused-number};
 ghost use Rattle.why.specs.Calls.{WhyCall};
-use refusal::Answer;
+use crate::inner::call::why_task;
+use places::Layout;
 use refusal::Refusal;
 use refusal::number;
 use rule::Setup;
 use rule::Solver;
 use rule::Task;
-use strlsq::inner::fit_ready;
 use support::Term;
 
 // The causes, in code order 00 to 06.
@@ -106,22 +106,35 @@ pub fn why(
 {
     let task = Task {
         solver,
+        layout: Layout::ByRows,
         rows: n_rows,
         cols: n_cols,
         setup,
     };
-    match inner::why_sizes(
-        task,
-        term_idx,
-        theta.len(),
-        target.len(),
-        coeffs.len(),
-        workspace.len(),
-    ) {
-        Answer::Done => {
-            let watched = fit_ready(task, theta, target, term_idx, coeffs, workspace);
-            Caused::Because(inner::cause_of(watched, setup))
-        }
-        Answer::Refused(w) => Caused::Refused(w),
-    }
+    why_task(task, theta, target, term_idx, coeffs, workspace)
+}
+
+// The same of theta by columns.
+pub fn why_by_columns(
+    solver: Solver,
+    theta: &[f64],
+    n_rows: usize,
+    n_cols: usize,
+    target: &[f64],
+    setup: Setup,
+    term_idx: Term,
+    coeffs: &mut [f64],
+    workspace: &mut [f64],
+) -> Caused
+    ensures { λ r. ⌜ WhyCall (by-columns (task-of solver «n_rows» «n_cols» setup)) («term_idx» .0) (now (theta .entry)) (now (target .entry))
+        (now (coeffs .entry)) (now (coeffs .exit)) (now (workspace .entry)) (now (workspace .exit)) r ⌝ }
+{
+    let task = Task {
+        solver,
+        layout: Layout::ByColumns,
+        rows: n_rows,
+        cols: n_cols,
+        setup,
+    };
+    why_task(task, theta, target, term_idx, coeffs, workspace)
 }

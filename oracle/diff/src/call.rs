@@ -29,6 +29,8 @@ pub struct Function {
     pub make: fn(&mut Rng) -> Call,
     pub library: fn(&mut Call) -> u64,
     pub model: fn(&mut Call) -> u64,
+    /// Another call of the library that must answer and leave the same, where there is one.
+    pub alike: Option<fn(&mut Call) -> u64>,
     /// The histogram's line for an answer.
     pub label: fn(&Call, u64) -> String,
 }

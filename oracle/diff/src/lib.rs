@@ -30,6 +30,7 @@ const _: () = {
         dapmotar_solve_spd_cholesky dapmotar_solve_lu dapmotar_solve_normal_equations dapmotar_invert_spd
         dapmotar_qr dapmotar_solve_least_squares
         dapmotar_strlsq dapmotar_strlsq_qr dapmotar_strlsq_marquardt
+        dapmotar_strlsq_by_columns dapmotar_strlsq_qr_by_columns dapmotar_strlsq_marquardt_by_columns
         dapmotar_strlsq_workspace dapmotar_strlsq_qr_workspace dapmotar_strlsq_marquardt_workspace
         dapmotar_why dapmotar_respond dapmotar_respond_why
     }

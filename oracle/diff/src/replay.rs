@@ -1,19 +1,22 @@
-//! The list of exchanges that the program `cases` replays: several of each answer for each solver, and several that
-//! tell each wilful fault of the stand-in apart, document 01's traps first.
+//! The list of exchanges that the program `cases` replays: several of each answer for each solver in each layout, the
+//! examples by columns, and several that tell each wilful fault of the stand-in apart, document 01's traps first.
 
 use crate::fault::{self, Fault};
 use crate::frames::FITBENCH;
+use oracle::examples;
 use oracle::exchange::fit_label;
-use oracle::frames::answered;
+use oracle::frames::{answered, write};
 use oracle::generate::{Made, damaged, input};
+use oracle::problem::Layout;
 use std::collections::BTreeMap;
 
 /// Only short inputs, so that the list stays small.
-const LONGEST: usize = 900;
+const LONGEST: usize = 700;
 /// Inputs that are looked at, for each fault anew.
 const LOOKED_AT: u64 = 60_000;
-/// Exchanges of each answer, of each trap, and of each other fault.
+/// Exchanges of each answer, by rows and by columns, of each trap, and of each other fault.
 const OF_AN_ANSWER: usize = 10;
+const OF_AN_ANSWER_BY_COLUMNS: usize = 5;
 const OF_A_TRAP: usize = 10;
 const OF_A_FAULT: usize = 3;
 
@@ -32,9 +35,13 @@ const TRAPS: [Fault; 5] = [
 pub fn list(seed: u64) -> Vec<u8> {
     let mut list = Vec::new();
     for (name, inputs) in by_answer(seed) {
-        assert_eq!(inputs.len(), OF_AN_ANSWER, "{name}");
+        assert_eq!(inputs.len(), of_an_answer(&name), "{name}");
         group(&mut list, &name, &inputs);
     }
+    let by_columns = examples::all().into_iter().map(|example| example.problem);
+    let by_columns = by_columns.filter(|problem| problem.layout == Layout::ByColumns);
+    let inputs: Vec<Vec<u8>> = by_columns.map(|problem| write(&problem)).collect();
+    group(&mut list, "examples by columns", &inputs);
     for &trap in &TRAPS {
         let inputs = telling(seed, trap, OF_A_TRAP);
         assert_eq!(inputs.len(), OF_A_TRAP, "{trap:?}");
@@ -76,12 +83,22 @@ fn by_answer(seed: u64) -> BTreeMap<String, Vec<Vec<u8>>> {
     let mut groups: BTreeMap<String, Vec<Vec<u8>>> = BTreeMap::new();
     for made in inputs(seed) {
         let (_, said) = answered(&made.input);
-        let group = groups.entry(fit_label(&made.input, &said)).or_default();
-        if group.len() < OF_AN_ANSWER {
+        let name = fit_label(&made.input, &said);
+        let most = of_an_answer(&name);
+        let group = groups.entry(name).or_default();
+        if group.len() < most {
             group.push(made.input);
         }
     }
     groups
+}
+
+fn of_an_answer(name: &str) -> usize {
+    if name.contains("by columns") {
+        OF_AN_ANSWER_BY_COLUMNS
+    } else {
+        OF_AN_ANSWER
+    }
 }
 
 /// The first few inputs that a fault answers otherwise.

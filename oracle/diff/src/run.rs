@@ -57,8 +57,15 @@ pub fn one(function: &Function, seed: u64, index: u64) -> One {
     let wanted = (function.model)(&mut expected);
     let answer = (function.library)(&mut got);
     let label = (function.label)(&expected, wanted);
+    let differs = difference(&before, (&got, answer), (&expected, wanted));
+    let alike = || {
+        let mut other = before.clone();
+        let said = function.alike?(&mut other);
+        let text = difference(&before, (&got, answer), (&other, said))?;
+        Some(format!("as the call beside it: {text}"))
+    };
     One {
-        difference: difference(&before, (&got, answer), (&expected, wanted)),
+        difference: differs.or_else(alike),
         label,
         accepted: (wanted == 0 && !before.writes.is_empty()).then_some(before.sizes),
     }

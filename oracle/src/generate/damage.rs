@@ -31,6 +31,9 @@ const DAMAGES: &[(&str, Damage)] = &[
     ("tail-long", |_, input| input.extend([b'0'; 70_000])),
     ("solver", solver),
     ("size-digit", size_digit),
+    ("first-last", first_last),
+    ("no-rows", no_rows),
+    ("widths", widths),
 ];
 
 /// One or a few damages to an input, and the first one's name.
@@ -181,7 +184,9 @@ fn some_line(rng: &mut Rng, input: &[u8]) -> Option<(usize, usize)> {
 /// Another solver code.
 fn solver(rng: &mut Rng, input: &mut Vec<u8>) {
     if input.len() >= 2 {
-        let code = rng.pick(&[0, 1, 2, 3, 4, 0x10, 0x11, 0x12, 0x13, 0x20, 0xff]);
+        let code = rng.pick(&[
+            0, 1, 2, 3, 4, 0x0b, 0x0c, 0x0d, 0x10, 0x11, 0x12, 0x13, 0x14, 0x20, 0x21, 0xff,
+        ]);
         input.splice(0..2, format!("{code:02x}").into_bytes());
     }
 }
@@ -193,9 +198,44 @@ fn size_digit(rng: &mut Rng, input: &mut Vec<u8>) {
     }
 }
 
+/// The frame behind the header, which by columns holds the targets, moved to the end.
+fn first_last(_: &mut Rng, input: &mut Vec<u8>) {
+    if let [header, first, ..] = newlines(input)[..] {
+        input[header + 1..].rotate_left(first - header);
+    }
+}
+
+/// No rows, and some empty lines: by columns one for the targets and one a column are asked for.
+fn no_rows(rng: &mut Rng, input: &mut Vec<u8>) {
+    if let Some(&header) = newlines(input).first()
+        && header >= 8
+    {
+        let lines = rng.below(6);
+        input.truncate(header + 1);
+        input.extend(vec![b'\n'; lines]);
+        input[2..6].fill(b'0');
+    }
+}
+
+/// A newline sixteen digits before or behind its place.
+fn widths(rng: &mut Rng, input: &mut Vec<u8>) {
+    let ends = newlines(input);
+    if let Some(&end) = ends.get(rng.below(ends.len().max(1))) {
+        input.remove(end);
+        let at = if rng.once_in(2) {
+            end + 16
+        } else {
+            end.saturating_sub(16)
+        };
+        input.insert(at.min(input.len()), b'\n');
+    }
+}
+
 /// A header beyond one or more limits, at a limit, or just under it, with junk after it or nothing.
 pub fn over(rng: &mut Rng) -> Vec<u8> {
-    let code = rng.pick(&[1, 2, 3, 1, 2, 3, 1, 2, 3, 0, 4]);
+    let code = rng.pick(&[
+        1, 2, 3, 1, 2, 3, 0x11, 0x12, 0x13, 0x11, 0x12, 0x13, 0, 4, 0x10, 0x14,
+    ]);
     let rows = rng.pick(&[0, 1, 127, 128, 128, 129, 130, 255, 256, 4096, 4097, 0xffff]);
     let cols = rng.pick(&[0, 1, 15, 16, 16, 17, 18, 64, 65, 255]);
     let rounds = rng.pick(&[0, 1, 999, 1000, 1000, 1001, 1002, 4096, 0xffff]);

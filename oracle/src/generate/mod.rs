@@ -10,7 +10,7 @@ pub mod why_kinds;
 use crate::exchange::Exchange;
 use crate::frames::write;
 use crate::histogram::Histogram;
-use crate::problem::Problem;
+use crate::problem::{Layout, Problem};
 use crate::refusal::{MAX_FRAME_COLS, MAX_FRAME_ROWS};
 use crate::rng::Rng;
 use kinds::Size;
@@ -50,13 +50,20 @@ fn made(rng: &mut Rng, draw: Draw) -> Made {
         },
         1 | 2 => damaged_by(rng, draw),
         _ => {
-            let (kind, problem) = draw(rng, FRAME_SIZE);
+            let (kind, problem) = in_a_layout(rng, draw, FRAME_SIZE);
             Made {
                 kind: kind.into(),
                 input: write(&problem),
             }
         }
     }
+}
+
+/// A drawn problem, by columns as often as not.
+fn in_a_layout(rng: &mut Rng, draw: Draw, size: Size) -> (&'static str, Problem) {
+    let (kind, mut problem) = draw(rng, size);
+    problem.layout = rng.pick(&Layout::ALL);
+    (kind, problem)
 }
 
 /// Damaged input number `index` of a seed.
@@ -76,7 +83,7 @@ pub fn why_damaged(seed: u64, index: u64) -> Made {
 fn damaged_by(rng: &mut Rng, draw: Draw) -> Made {
     let few = Size { rows: 4, cols: 3 };
     let size = if rng.once_in(20) { FRAME_SIZE } else { few };
-    let (_, problem) = draw(rng, size);
+    let (_, problem) = in_a_layout(rng, draw, size);
     let mut input = write(&problem);
     let name = damage::any(rng, &mut input);
     Made {
@@ -113,23 +120,23 @@ pub fn run(
 mod tests {
     use super::*;
     use crate::cause::Cause;
-    use crate::exchange::{FITBENCH, WHY};
+    use crate::exchange::{FITBENCH, WHY, label};
     use crate::fit::{Fit, Stop, fit};
     use crate::frames::read;
-    use crate::problem::Solver;
+    use crate::problem::{Code, Solver};
     use crate::refusal::Refusal::{self, *};
 
-    /// Each solver meets each of these answers, by code and name, and each of these refusals.
+    /// Each solver in each layout meets each of these answers, by code and name, and each of these refusals.
     fn all_met(histogram: &Histogram, answers: &[(u64, String)], refusals: &[Refusal]) {
-        for solver in Solver::ALL {
-            let solver = solver.name();
+        for code in Code::all() {
             let answers = answers
                 .iter()
-                .map(|(code, name)| format!("{solver:<9} {code:02x} {name}"));
+                .map(|(number, name)| format!("{number:02x} {name}"));
             let refusals = refusals
                 .iter()
-                .map(|refusal| format!("{solver:<9} ff{:02x} {refusal:?}", refusal.number()));
-            for name in answers.chain(refusals) {
+                .map(|refusal| format!("ff{:02x} {refusal:?}", refusal.number()));
+            for answer in answers.chain(refusals) {
+                let name = label(&code.name(), answer);
                 assert!(histogram.of(&name) > 5, "{name}\n{histogram}");
             }
         }

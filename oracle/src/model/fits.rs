@@ -2,7 +2,7 @@
 
 use super::{Answer, clear, refuse_if};
 use crate::fit::{self, Fit, Report};
-use crate::problem::{Problem, Setup, Solver};
+use crate::problem::{Code, Layout, Problem, Setup, Solver, transposed};
 use crate::refusal::{MAX_COLS, MAX_ROUNDS, MAX_ROWS, Refusal};
 
 /// The numbers of workspace that a fit needs, 0 beyond the limits.
@@ -23,10 +23,10 @@ fn limits(n_rows: usize, n_cols: usize) -> Answer {
     refuse_if(n_rows > MAX_ROWS, Refusal::Rows)
 }
 
-/// `strlsq`, `strlsq_qr` or `strlsq_marquardt`.
+/// `strlsq`, `strlsq_qr` or `strlsq_marquardt`, by rows or by columns.
 #[allow(clippy::too_many_arguments)]
 pub fn fit(
-    solver: Solver,
+    code: Code,
     theta: &[f64],
     n_rows: usize,
     n_cols: usize,
@@ -37,7 +37,7 @@ pub fn fit(
 ) -> Result<Report, Refusal> {
     limits_of_a_fit(n_rows, n_cols, setup)?;
     let fit = fitted(
-        solver, theta, n_rows, n_cols, target, setup, coeffs, workspace,
+        code, theta, n_rows, n_cols, target, setup, coeffs, workspace,
     )?;
     Ok(fit.report)
 }
@@ -48,10 +48,11 @@ pub fn limits_of_a_fit(n_rows: usize, n_cols: usize, setup: Setup) -> Answer {
     refuse_if(setup.max_iter > MAX_ROUNDS, Refusal::Rounds)
 }
 
-/// The fit within the limits, or a refusal from 4 on.
+/// The fit within the limits, or a refusal from 4 on. The published functions read by rows: a theta by columns is
+/// transposed for them.
 #[allow(clippy::too_many_arguments)]
 pub fn fitted(
-    solver: Solver,
+    Code { solver, layout }: Code,
     theta: &[f64],
     n_rows: usize,
     n_cols: usize,
@@ -67,10 +68,14 @@ pub fn fitted(
     refuse_if(workspace.len() < needed, Refusal::Workspace)?;
     let problem = Problem {
         solver,
+        layout,
         rows: n_rows,
         cols: n_cols,
         setup,
-        theta: theta.to_vec(),
+        theta: match layout {
+            Layout::ByRows => theta.to_vec(),
+            Layout::ByColumns => transposed(theta, n_cols, n_rows),
+        },
         target: target.to_vec(),
     };
     let fit = fit::fit(&problem);

@@ -3,11 +3,11 @@
 use super::fits::{fitted, limits_of_a_fit};
 use super::refuse_if;
 use crate::cause::Cause;
-use crate::problem::{Setup, Solver};
+use crate::problem::{Code, Setup};
 use crate::refusal::Refusal;
 use crate::why::above_zero;
 
-/// A fit by the solver of this code, and the cause of one of its terms. An unknown code comes first, 12 directly after
+/// A fit by the solver and in the layout of this code, and the cause of one of its terms. An unknown code comes first, 12 directly after
 /// 3, 13 after that.
 #[allow(clippy::too_many_arguments)]
 pub fn why(
@@ -21,12 +21,12 @@ pub fn why(
     coeffs: &mut [f64],
     workspace: &mut [f64],
 ) -> Result<Cause, Refusal> {
-    let solver = Solver::of_code(code).ok_or(Refusal::MalformedFrame)?;
+    let code = Code::of_number(code).ok_or(Refusal::MalformedFrame)?;
     limits_of_a_fit(n_rows, n_cols, setup)?;
     above_zero(setup)?;
     refuse_if(term >= n_cols, Refusal::Term)?;
     let fit = fitted(
-        solver, theta, n_rows, n_cols, target, setup, coeffs, workspace,
+        code, theta, n_rows, n_cols, target, setup, coeffs, workspace,
     )?;
     Ok(fit.causes[term])
 }

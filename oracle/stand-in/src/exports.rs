@@ -6,6 +6,7 @@
 use crate::builders::Damping;
 use crate::fault::{self, Fault};
 use crate::fits::{By, Fit, workspace as needed_by};
+use crate::layout::Layout;
 use crate::sizes::{Sizes, clear};
 use crate::{builders, qr, root, square};
 use std::slice;
@@ -333,10 +334,20 @@ fn fit_sizes(fit: &Fit<'_>, coeffs: &[f64], workspace: &[f64]) -> Sizes {
     sizes.columns(fit.cols);
     sizes.rows(fit.rows);
     sizes.rounds(fit.max_iter);
-    sizes.matrix(fit.theta.len(), fit.rows, fit.cols);
-    sizes.right_hand_side(fit.target.len(), fit.rows);
+    // The fault's size where theta stands by columns.
+    let size = |right: usize, fault, wrong| match fit.layout {
+        Layout::ByRows => right,
+        Layout::ByColumns => fault::or(right, fault, wrong),
+    };
+    let height = size(fit.cols, Fault::LayoutMatrixSquare, fit.rows);
+    sizes.matrix(fit.numbers.len(), fit.rows, height);
+    let targets = size(fit.rows, Fault::LayoutTargetOfColumns, fit.cols);
+    sizes.right_hand_side(fit.target.len(), targets);
     sizes.output(coeffs.len(), fit.cols);
-    sizes.workspace(workspace.len(), needed_by(fit.by, fit.rows, fit.cols));
+    let needed = needed_by(fit.by, fit.rows, fit.cols);
+    let with_copy = needed.wrapping_add(fit.numbers.len());
+    let needed = size(needed, Fault::LayoutWorkspaceWithCopy, with_copy);
+    sizes.workspace(workspace.len(), needed);
     sizes
 }
 
@@ -362,6 +373,9 @@ unsafe fn fit(
     if fault::is(Fault::RefusesAll) {
         return 1;
     }
+    if fit.target.len() != fit.rows {
+        return 0;
+    }
     let used = needed.min(workspace.len());
     workspace[..used].fill(7.0);
     let before = coeffs.to_vec();
@@ -385,7 +399,7 @@ unsafe fn fit(
 }
 
 macro_rules! fits {
-    ($($name:ident: $by:ident;)*) => {$(
+    ($($name:ident: $by:ident, $layout:ident;)*) => {$(
         #[unsafe(no_mangle)]
         pub unsafe extern "C" fn $name(
             theta: *const f64,
@@ -407,7 +421,8 @@ macro_rules! fits {
             unsafe {
                 let problem = Fit {
                     by: By::$by,
-                    theta: part(theta, theta_len),
+                    layout: Layout::$layout,
+                    numbers: part(theta, theta_len),
                     rows: n_rows,
                     cols: n_cols,
                     target: part(target, target_len),
@@ -428,9 +443,12 @@ macro_rules! fits {
 }
 
 fits! {
-    dapmotar_strlsq: Normal;
-    dapmotar_strlsq_qr: Qr;
-    dapmotar_strlsq_marquardt: Marquardt;
+    dapmotar_strlsq: Normal, ByRows;
+    dapmotar_strlsq_qr: Qr, ByRows;
+    dapmotar_strlsq_marquardt: Marquardt, ByRows;
+    dapmotar_strlsq_by_columns: Normal, ByColumns;
+    dapmotar_strlsq_qr_by_columns: Qr, ByColumns;
+    dapmotar_strlsq_marquardt_by_columns: Marquardt, ByColumns;
 }
 
 /// A workspace length, 0 beyond the limits.

@@ -1,12 +1,12 @@
 //! The wilful faults, one at a time.
 
-use std::sync::atomic::{AtomicU8, Ordering};
+use std::sync::atomic::{AtomicU16, Ordering};
 
 macro_rules! faults {
     ($($fault:ident)*) => {
         /// A fault of the stand-in.
         #[derive(Clone, Copy, Debug, PartialEq, Eq)]
-        #[repr(u8)]
+        #[repr(u16)]
         pub enum Fault { None, $($fault,)* }
 
         impl Fault {
@@ -195,6 +195,24 @@ faults! {
     ErrorZeroWithoutData
     ErrorWrittenWhenRefused
     ErrorNotWritten
+    // Theta by columns.
+    LayoutReadByRows
+    LayoutStrideOfColumns
+    LayoutLastColumnLeft
+    LayoutLastRowLeft
+    LayoutFirstPageOnly
+    LayoutFirstPageAgain
+    LayoutLastPageLeft
+    LayoutOnlySquare
+    LayoutNotSquare
+    LayoutProductsByRows
+    LayoutRefitByPlace
+    LayoutErrorByRows
+    LayoutErrorByPlace
+    LayoutMarquardtByRows
+    LayoutMatrixSquare
+    LayoutTargetOfColumns
+    LayoutWorkspaceWithCopy
     // The frames.
     FrameLowDigitFirst
     FrameRowsBeforeColumns
@@ -218,10 +236,19 @@ faults! {
     FrameColumnLimit
     FrameRowLimit
     FrameRefusalDecimal
+    FrameColumnsAsRows
+    FrameColumnsTenth
+    FrameColumnsShort
+    FrameColumnsTransposed
+    FrameTargetsLast
+    FrameNoRowsNoLines
+    FrameNoColumnsNoTargets
     // Why: its refusals, its causes, what it writes, its program.
     WhyCodeLast
     WhyCodeCut
-    WhyCodeByColumns
+    WhyCodeTen
+    WhyCodeFourteen
+    WhyColumnsAsRows
     WhySolverIgnored
     WhyThresholdZero
     WhyThresholdNan
@@ -263,13 +290,14 @@ faults! {
     WhyFrameValueFirst
     WhyFrameNanOtherBits
     WhyFrameRefusalDecimal
+    WhyFrameColumnsMissing
 }
 
-static CURRENT: AtomicU8 = AtomicU8::new(0);
+static CURRENT: AtomicU16 = AtomicU16::new(0);
 
 /// Take a fault on, and leave the one before.
 pub fn set(fault: Fault) {
-    CURRENT.store(fault as u8, Ordering::Relaxed);
+    CURRENT.store(fault as u16, Ordering::Relaxed);
 }
 
 /// Take on the fault that `DAPMOTAR_FAULT` names, none if it is not set.
@@ -283,7 +311,7 @@ pub fn set_from_env() {
 
 /// Is this the fault taken on?
 pub fn is(fault: Fault) -> bool {
-    CURRENT.load(Ordering::Relaxed) == fault as u8
+    CURRENT.load(Ordering::Relaxed) == fault as u16
 }
 
 /// The second value under the fault, else the first.

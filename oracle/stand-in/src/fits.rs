@@ -2,6 +2,7 @@
 
 use crate::builders::{Damping, PAGE, damp, jtr, pair_sums};
 use crate::fault::{self, Fault};
+use crate::layout::{Layout, Use};
 use crate::qr::least_squares;
 use crate::root::{abs, sqrt};
 use crate::square::normal_equations;
@@ -18,7 +19,9 @@ pub enum By {
 #[derive(Clone, Copy)]
 pub struct Fit<'a> {
     pub by: By,
-    pub theta: &'a [f64],
+    pub layout: Layout,
+    /// Theta's, in that layout.
+    pub numbers: &'a [f64],
     pub rows: usize,
     pub cols: usize,
     pub target: &'a [f64],
@@ -86,10 +89,16 @@ impl Kept {
     fn of(fit: &Fit<'_>) -> Kept {
         let c = fit.cols;
         let (mut sums, mut products) = (vec![0.0; c * c], vec![0.0; c]);
-        pair_sums(fit.theta, fit.rows, c, fit.lambda, &mut sums);
+        pair_sums(&fit.theta(Use::Sums), fit.rows, c, fit.lambda, &mut sums);
         let target = |row| fault::or(row, Fault::ProductsByFirstTargets, row % PAGE);
         let targets: Vec<f64> = (0..fit.rows).map(|row| fit.target[target(row)]).collect();
-        jtr(fit.theta, &targets, fit.rows, c, &mut products);
+        jtr(
+            &fit.theta(Use::Products),
+            &targets,
+            fit.rows,
+            c,
+            &mut products,
+        );
         if fault::is(Fault::KeptDamped) {
             damp(&mut sums, c, fit.damping(false), fit.lambda);
         }
@@ -307,8 +316,11 @@ impl Fit<'_> {
             return Ok(b);
         }
         let mut part = Vec::with_capacity((r + c) * c);
-        for row in 0..r {
-            part.extend(terms.iter().map(|j| self.theta[row * self.cols + j]));
+        let theta = self.theta(Use::LeastSquares);
+        let column = |(col, &j)| self.column(j, col, Fault::LayoutRefitByPlace);
+        let columns: Vec<usize> = terms.iter().enumerate().map(column).collect();
+        for row in theta.chunks_exact(self.cols).take(r) {
+            part.extend(columns.iter().map(|&j| row[j]));
         }
         let root = fault::or(sqrt(lambda), Fault::LambdaNotRooted, lambda);
         for i in 0..c {

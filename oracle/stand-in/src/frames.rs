@@ -2,6 +2,7 @@
 
 use crate::fault::{self, Fault};
 use crate::fits::{By, Fit};
+use crate::layout::Layout;
 
 pub fn respond(input: &[u8]) -> Vec<u8> {
     match problem(input, |_| true) {
@@ -12,6 +13,9 @@ pub fn respond(input: &[u8]) -> Vec<u8> {
 
 /// A line for each term, for a threshold above zero.
 pub fn respond_why(input: &[u8]) -> Vec<u8> {
+    if fault::is(Fault::WhyFrameColumnsMissing) && input.first() == Some(&b'1') {
+        return refusal(11, Fault::WhyFrameRefusalDecimal);
+    }
     match problem(input, |threshold| threshold > 0.0) {
         Ok(problem) => problem.why().into_bytes(),
         Err(number) => refusal(number, Fault::WhyFrameRefusalDecimal),
@@ -26,9 +30,10 @@ fn refusal(number: u64, decimal: Fault) -> Vec<u8> {
     }
 }
 
-/// A header's numbers and the rows.
+/// A header's numbers and the frames behind it; theta in its layout.
 struct Problem {
     by: By,
+    layout: Layout,
     rows: usize,
     cols: usize,
     max_iter: usize,
@@ -42,7 +47,8 @@ impl Problem {
     fn fit(&self) -> Fit<'_> {
         Fit {
             by: self.by,
-            theta: &self.theta,
+            layout: self.layout,
+            numbers: &self.theta,
             rows: self.rows,
             cols: self.cols,
             target: &self.target,
@@ -131,14 +137,7 @@ fn problem(input: &[u8], accepted: fn(f64) -> bool) -> Result<Problem, u64> {
         return Err(1);
     }
     let header = header.ok_or(11u64)?;
-    let code = number(&header[..2]);
-    let by = match code {
-        1 => By::Normal,
-        2 => By::Qr,
-        3 if !fault::is(Fault::FrameThirdMissing) => By::Marquardt,
-        4 if fault::is(Fault::FrameFourthSolver) => By::Marquardt,
-        _ => return Err(11),
-    };
+    let (by, layout) = known(number(&header[..2])).ok_or(11u64)?;
     let threshold = f64::from_bits(number(&header[12..28]));
     let twelve = |now| {
         if now && !accepted(threshold) {
@@ -169,23 +168,18 @@ fn problem(input: &[u8], accepted: fn(f64) -> bool) -> Result<Problem, u64> {
         }
     }
     twelve(!fault::is(Fault::WhyFrameThresholdAfterRows))?;
-    let (mut theta, mut target) = (Vec::new(), Vec::new());
-    for _ in 0..rows {
-        if cols == 0 && fault::is(Fault::FrameNoColumnsNoRows) {
-            target.push(0.0);
-            continue;
-        }
-        let row = lines.take(16 * (1 + cols)).ok_or(11u64)?;
-        let numbers: Vec<f64> = row.chunks(16).map(|d| f64::from_bits(number(d))).collect();
-        target.push(numbers[0]);
-        theta.extend(&numbers[1..]);
-    }
+    let read = match layout {
+        Layout::ByRows => by_rows(&mut lines, rows, cols),
+        Layout::ByColumns => by_columns(&mut lines, rows, cols),
+    };
+    let (theta, target) = read.ok_or(11u64)?;
     if !lines.0.is_empty() && !fault::is(Fault::FrameTailAccepted) {
         return Err(11);
     }
     twelve(true)?;
     Ok(Problem {
         by,
+        layout,
         rows,
         cols,
         max_iter,
@@ -196,10 +190,76 @@ fn problem(input: &[u8], accepted: fn(f64) -> bool) -> Result<Problem, u64> {
     })
 }
 
+/// What a header's code says.
+fn known(code: u64) -> Option<(By, Layout)> {
+    let columns = fault::or(Layout::ByColumns, Fault::FrameColumnsAsRows, Layout::ByRows);
+    Some(match code {
+        1 => (By::Normal, Layout::ByRows),
+        2 => (By::Qr, Layout::ByRows),
+        3 if !fault::is(Fault::FrameThirdMissing) => (By::Marquardt, Layout::ByRows),
+        4 if fault::is(Fault::FrameFourthSolver) => (By::Marquardt, Layout::ByRows),
+        0x11 => (By::Normal, columns),
+        0x12 => (By::Qr, columns),
+        0x13 => (By::Marquardt, columns),
+        0x10 if fault::is(Fault::FrameColumnsTenth) => (By::Normal, columns),
+        _ => return None,
+    })
+}
+
+/// Theta by rows and the targets, a frame a row.
+fn by_rows(lines: &mut Lines<'_>, rows: usize, cols: usize) -> Option<(Vec<f64>, Vec<f64>)> {
+    let (mut theta, mut target) = (Vec::new(), Vec::new());
+    for _ in 0..rows {
+        if cols == 0 && fault::is(Fault::FrameNoColumnsNoRows) {
+            target.push(0.0);
+            continue;
+        }
+        let numbers = lines.numbers(1 + cols)?;
+        target.push(numbers[0]);
+        theta.extend(&numbers[1..]);
+    }
+    Some((theta, target))
+}
+
+/// Theta by columns and the targets: a frame with all of these, then a frame a column.
+fn by_columns(lines: &mut Lines<'_>, rows: usize, cols: usize) -> Option<(Vec<f64>, Vec<f64>)> {
+    let nothing = rows == 0 && fault::is(Fault::FrameNoRowsNoLines)
+        || cols == 0 && fault::is(Fault::FrameNoColumnsNoTargets);
+    if nothing {
+        return Some((Vec::new(), vec![0.0; rows]));
+    }
+    // As many numbers as a frame by rows may hold.
+    if rows > 17 && fault::is(Fault::FrameColumnsShort) {
+        return None;
+    }
+    let frames: Option<Vec<Vec<f64>>> = (0..1 + cols).map(|_| lines.numbers(rows)).collect();
+    let mut frames = frames?;
+    if fault::is(Fault::FrameTargetsLast) {
+        frames.rotate_right(1);
+    }
+    let target = frames.remove(0);
+    if fault::is(Fault::FrameColumnsTransposed) {
+        let row = |i| frames.iter().map(move |column| column[i]);
+        return Some(((0..rows).flat_map(row).collect(), target));
+    }
+    Some((frames.concat(), target))
+}
+
 /// What is left of an input.
 struct Lines<'a>(&'a [u8]);
 
 impl<'a> Lines<'a> {
+    /// The next frame's numbers, if it has so many.
+    fn numbers(&mut self, count: usize) -> Option<Vec<f64>> {
+        let digits = self.take(16 * count)?;
+        Some(
+            digits
+                .chunks(16)
+                .map(|d| f64::from_bits(number(d)))
+                .collect(),
+        )
+    }
+
     /// The next frame's digits, if it has so many and its newline.
     fn take(&mut self, digits: usize) -> Option<&'a [u8]> {
         let line = self.0.get(..digits)?;

@@ -3,6 +3,7 @@
 use crate::builders::PAGE;
 use crate::fault::{self, Fault};
 use crate::fits::{Fit, bit};
+use crate::layout::Use;
 
 impl Fit<'_> {
     /// The error of a fit that ended so, with these coefficients and this kept word.
@@ -13,7 +14,8 @@ impl Fit<'_> {
             return 0.0;
         }
         let terms = self.counted(kept, coeffs);
-        let left = (0..self.rows).map(|row| self.row_left(row, &terms, coeffs));
+        let theta = self.theta(Use::Error);
+        let left = (0..self.rows).map(|row| self.row_left(&theta, row, &terms, coeffs));
         sum_of_squares(left.collect())
     }
 
@@ -33,11 +35,12 @@ impl Fit<'_> {
     }
 
     /// A row's target less the sum of the products.
-    fn row_left(&self, row: usize, terms: &[usize], coeffs: &[f64]) -> f64 {
+    fn row_left(&self, theta: &[f64], row: usize, terms: &[usize], coeffs: &[f64]) -> f64 {
         let pair = |(col, &term_idx): (usize, &usize)| {
             let column = fault::or(term_idx, Fault::ErrorColumnByPlace, col);
+            let column = self.column(column, col, Fault::LayoutErrorByPlace);
             let number = fault::or(term_idx, Fault::ErrorCoefficientByPlace, col);
-            (self.theta[row * self.cols + column], coeffs[number])
+            (theta[row * self.cols + column], coeffs[number])
         };
         let pairs = terms.iter().enumerate().map(pair);
         let target = self.target[fault::or(row, Fault::ErrorByFirstTargets, row % PAGE)];

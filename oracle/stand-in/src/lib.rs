@@ -12,6 +12,7 @@ pub mod exports;
 pub mod fault;
 mod fits;
 mod frames;
+mod layout;
 mod leftover;
 mod qr;
 mod root;

@@ -3,9 +3,12 @@ ghost use mathlib.Core.Path.{_≡_};
 ghost use Rattle.hex.specs.Hex.{Digits};
 ghost use Rattle.reader.specs.Header.{header-digits, header-formed, header, head-of};
 use hex::inner::size;
+use places::Layout;
+use rule::Coded;
 use rule::Setup;
 use rule::Solver;
 use rule::Task;
+use rule::by_code;
 
 // The header's digits, and its frame: these and a newline.
 const DIGITS: usize = 44;
@@ -31,10 +34,10 @@ fn formed(s: &[u8]) -> bool
     s[DIGITS] == 10
 }
 
-// What the digits after the solver's say.
-fn fields(s: &[u8], solver: Solver) -> Task
+// What the digits after the solver's code say.
+fn fields(s: &[u8], layout: Layout, solver: Solver) -> Task
     requires { ⌜ Digits (now s) 0 header-digits ⌝ }
-    ensures { λ r. ⌜ r ≡ header (now (s .entry)) solver ⌝ }
+    ensures { λ r. ⌜ r ≡ header (now (s .entry)) layout solver ⌝ }
 {
     let rows = size(hex::inner::number_at(s, 2, 4));
     let cols = size(hex::inner::number_at(s, 6, 2));
@@ -43,6 +46,7 @@ fn fields(s: &[u8], solver: Solver) -> Task
     let lambda = hex::inner::float(s, 28);
     Task {
         solver,
+        layout,
         rows,
         cols,
         setup: Setup {
@@ -60,15 +64,8 @@ pub fn read_header(s: &[u8]) -> Head
     if !formed(s) {
         return Head::Wrong;
     }
-    let code = hex::inner::number_at(s, 0, 2);
-    if code == 1 {
-        return Head::Good(fields(s, Solver::Normal));
+    match by_code(hex::inner::number_at(s, 0, 2)) {
+        Coded::By(layout, solver) => Head::Good(fields(s, layout, solver)),
+        Coded::Unknown => Head::Wrong,
     }
-    if code == 2 {
-        return Head::Good(fields(s, Solver::Qr));
-    }
-    if code == 3 {
-        return Head::Good(fields(s, Solver::Marquardt));
-    }
-    Head::Wrong
 }

@@ -29,10 +29,12 @@ fn qr_values(
     ensures { λ r. ⌜ values «n_active» (told r (drop ((task .rows + «n_active») * «n_active») (now (ws .exit)))) ≡ problem-of task (now (theta .entry)) (now (target .entry)) .solve (support .0) ⌝ }
 {
     let setup = task.setup;
+    let layout = task.layout;
     let m = task.rows + n_active;
     let e = m * n_active;
     let f = e + m;
     augment(
+        layout,
         theta,
         task.rows,
         task.cols,

@@ -3,12 +3,16 @@
 ghost use Prim.Native.Nat.{_+_, _*_, _≤_, _<_};
 ghost use lib.ListN.{length};
 ghost use Rattle.steps.specs.Num.{cell as cell-of};
+ghost use Rattle.places.specs.Stored.{stored};
 ghost use Rattle.sums.specs.Inner.{Matrix};
 ghost use Rattle.sums.specs.Pages.{Holds, UpperSums};
+use crate::inner::columns::fill_columns;
 use pairs::inner::add_page;
+use places::Layout;
+use places::inner::page_rows;
 
-// The page takes the h rows of theta from row i on: nothing else of `jtj` or of a fit by sums knows how theta is stored.
-pub fn fill_page(theta: &[f64], n_cols: usize, i: usize, h: usize, page: &mut [f64])
+// A page takes the h rows from row i on, as they stand, of theta by rows.
+fn fill_rows(theta: &[f64], n_cols: usize, i: usize, h: usize, page: &mut [f64])
     requires { ⌜ (i * «n_cols» + h * «n_cols» ≤ length (now theta)) × (h * «n_cols» ≤ length (now page)) ⌝ }
     ensures { λ _. ⌜ Holds (cell-of «n_cols» (now (theta .entry))) «n_cols» i h (now (page .exit)) ⌝ }
 {
@@ -18,12 +22,23 @@ pub fn fill_page(theta: &[f64], n_cols: usize, i: usize, h: usize, page: &mut [f
     }
 }
 
-// The rows of the next page where this many are left.
-pub fn page_rows(left: usize) -> usize
-    requires { ⌜ 0 < left ⌝ }
-    ensures { λ h. ⌜ (0 < h) × (h ≤ left) × (h ≤ 32) ⌝ }
+// By either: nothing else of a fit by sums knows how theta is stored.
+pub fn fill_page(
+    layout: Layout,
+    theta: &[f64],
+    n_rows: usize,
+    n_cols: usize,
+    i: usize,
+    h: usize,
+    page: &mut [f64],
+)
+    requires { ⌜ Matrix «n_rows» «n_cols» (length (now theta)) × (i + h ≤ «n_rows») × (h * «n_cols» ≤ length (now page)) ⌝ }
+    ensures { λ _. ⌜ Holds (stored layout «n_rows» «n_cols» (now (theta .entry))) «n_cols» i h (now (page .exit)) ⌝ }
 {
-    if left < 32 { left } else { 32 }
+    match layout {
+        Layout::ByRows => fill_rows(theta, n_cols, i, h, page),
+        Layout::ByColumns => fill_columns(theta, n_rows, n_cols, i, h, page),
+    }
 }
 
 // The sums take all rows, page by page.
@@ -33,8 +48,8 @@ fn add_pages(theta: &[f64], n_rows: usize, n_cols: usize, page: &mut [f64], out:
 {
     let mut left = n_rows;
     while left > 0 {
-        let h = page_rows(left);
-        fill_page(theta, n_cols, n_rows - left, h, page);
+        let h = page_rows(left, 32);
+        fill_rows(theta, n_cols, n_rows - left, h, page);
         add_page(page, n_cols, h, out);
         left = left - h;
     }

@@ -17,6 +17,7 @@ pub const JTJ: Function = Function {
     make: make_jtj,
     library: |call| library_jtj(call, raw::dapmotar_jtj),
     model: |call| model_jtj(call, linalg::jtj),
+    alike: None,
     label: number_label,
 };
 
@@ -52,6 +53,7 @@ pub const JTR: Function = Function {
             call.writes[0].numbers_mut(),
         ))
     },
+    alike: None,
     label: number_label,
 };
 

@@ -8,58 +8,113 @@ use oracle::fit::Stop;
 use oracle::generate::kinds::{self, Size};
 use oracle::generate::{setups, special_kinds};
 use oracle::model;
-use oracle::problem::{Problem, Setup, Solver};
+use oracle::problem::{Code, Layout, Problem, Setup, Solver, transposed};
 use oracle::refusal::{MAX_COLS, MAX_ROUNDS, MAX_ROWS};
 use oracle::rng::Rng;
 
+const fn by_rows(solver: Solver) -> Code {
+    let layout = Layout::ByRows;
+    Code { solver, layout }
+}
+
+const fn by_columns(solver: Solver) -> Code {
+    let layout = Layout::ByColumns;
+    Code { solver, layout }
+}
+
+const NORMAL: Code = by_rows(Solver::Normal);
+const QR: Code = by_rows(Solver::Qr);
+const MARQUARDT: Code = by_rows(Solver::Marquardt);
+const NORMAL_BY_COLUMNS: Code = by_columns(Solver::Normal);
+const QR_BY_COLUMNS: Code = by_columns(Solver::Qr);
+const MARQUARDT_BY_COLUMNS: Code = by_columns(Solver::Marquardt);
+
 pub const STRLSQ: Function = Function {
     name: "strlsq",
-    make: |rng| make(rng, Solver::Normal),
+    make: |rng| make(rng, NORMAL),
     library: |call| library(call, raw::dapmotar_strlsq),
-    model: |call| run_model(call, Solver::Normal),
+    model: |call| run_model(call, NORMAL),
+    alike: None,
     label,
 };
 
 pub const STRLSQ_QR: Function = Function {
     name: "strlsq_qr",
-    make: |rng| make(rng, Solver::Qr),
+    make: |rng| make(rng, QR),
     library: |call| library(call, raw::dapmotar_strlsq_qr),
-    model: |call| run_model(call, Solver::Qr),
+    model: |call| run_model(call, QR),
+    alike: None,
     label,
 };
 
 pub const STRLSQ_MARQUARDT: Function = Function {
     name: "strlsq_marquardt",
-    make: |rng| make(rng, Solver::Marquardt),
+    make: |rng| make(rng, MARQUARDT),
     library: |call| library(call, raw::dapmotar_strlsq_marquardt),
-    model: |call| run_model(call, Solver::Marquardt),
+    model: |call| run_model(call, MARQUARDT),
     ..STRLSQ
 };
 
 /// Calls of `strlsq` that mostly refit several times.
 pub const STRLSQ_REFITS: Function = Function {
     name: "strlsq_refits",
-    make: |rng| several_refits(rng, Solver::Normal),
+    make: |rng| several_refits(rng, NORMAL),
     ..STRLSQ
 };
 
 /// Calls of `strlsq` at every column count and at the rows where a walk by pages may go wrong.
 pub const STRLSQ_PAGES: Function = Function {
     name: "strlsq_pages",
-    make: |rng| {
-        let (rows, cols) = (rows_by_pages(rng), rng.between(0, MAX_COLS));
-        let problem = kinds::sparse(rng, rows, cols);
-        let call = of(rng, Plan::RIGHT, Solver::Normal, problem);
-        with_error(rng, call)
-    },
+    make: |rng| by_pages(rng, NORMAL),
     ..STRLSQ
 };
 
 /// Calls of `strlsq_marquardt` that do.
 pub const MARQUARDT_REFITS: Function = Function {
     name: "marquardt_refits",
-    make: |rng| several_refits(rng, Solver::Marquardt),
+    make: |rng| several_refits(rng, MARQUARDT),
     ..STRLSQ_MARQUARDT
+};
+
+/// By columns: against the model, and against the call by rows on the transpose.
+pub const STRLSQ_BY_COLUMNS: Function = Function {
+    name: "strlsq_by_columns",
+    make: |rng| make(rng, NORMAL_BY_COLUMNS),
+    library: |call| library(call, raw::dapmotar_strlsq_by_columns),
+    model: |call| run_model(call, NORMAL_BY_COLUMNS),
+    alike: Some(|call| on_transpose(call, raw::dapmotar_strlsq)),
+    label,
+};
+
+pub const STRLSQ_QR_BY_COLUMNS: Function = Function {
+    name: "strlsq_qr_by_columns",
+    make: |rng| make(rng, QR_BY_COLUMNS),
+    library: |call| library(call, raw::dapmotar_strlsq_qr_by_columns),
+    model: |call| run_model(call, QR_BY_COLUMNS),
+    alike: Some(|call| on_transpose(call, raw::dapmotar_strlsq_qr)),
+    label,
+};
+
+pub const STRLSQ_MARQUARDT_BY_COLUMNS: Function = Function {
+    name: "strlsq_marquardt_by_columns",
+    make: |rng| make(rng, MARQUARDT_BY_COLUMNS),
+    library: |call| library(call, raw::dapmotar_strlsq_marquardt_by_columns),
+    model: |call| run_model(call, MARQUARDT_BY_COLUMNS),
+    alike: Some(|call| on_transpose(call, raw::dapmotar_strlsq_marquardt)),
+    label,
+};
+
+/// Calls by columns at the sizes of a walk by pages, and by QR with several refits.
+pub const STRLSQ_BY_COLUMNS_PAGES: Function = Function {
+    name: "strlsq_by_columns_pages",
+    make: |rng| by_pages(rng, NORMAL_BY_COLUMNS),
+    ..STRLSQ_BY_COLUMNS
+};
+
+pub const QR_BY_COLUMNS_REFITS: Function = Function {
+    name: "qr_by_columns_refits",
+    make: |rng| several_refits(rng, QR_BY_COLUMNS),
+    ..STRLSQ_QR_BY_COLUMNS
 };
 
 /// The most that a fit takes.
@@ -68,12 +123,12 @@ pub const SIZE: Size = Size {
     cols: MAX_COLS,
 };
 
-fn make(rng: &mut Rng, solver: Solver) -> Call {
+fn make(rng: &mut Rng, code: Code) -> Call {
     let plan = Plan::new(rng);
     let call = if plan.is_right() {
-        right(rng, plan, solver)
+        right(rng, plan, code)
     } else {
-        any(rng, plan, solver)
+        any(rng, plan, code.solver)
     };
     with_error(rng, call)
 }
@@ -85,37 +140,48 @@ fn with_error(rng: &mut Rng, mut call: Call) -> Call {
 }
 
 /// A problem of exact lengths; the workspace may be short.
-fn right(rng: &mut Rng, plan: Plan, solver: Solver) -> Call {
+fn right(rng: &mut Rng, plan: Plan, code: Code) -> Call {
     // Some kinds are built for one solver.
     let problem = loop {
         let (_, mut problem) = kinds::any(rng, SIZE);
-        if problem.solver == solver || rng.once_in(8) {
-            problem.solver = solver;
+        if problem.solver == code.solver || rng.once_in(8) {
+            problem.solver = code.solver;
             break problem;
         }
     };
-    of(rng, plan, solver, problem)
+    of(rng, plan, code, problem)
 }
 
 /// Terms that fall in turn, and rounds for some of them.
-fn several_refits(rng: &mut Rng, solver: Solver) -> Call {
+fn several_refits(rng: &mut Rng, code: Code) -> Call {
     let problem = loop {
         let problem = special_kinds::falling(rng, SIZE);
         if problem.cols > 2 && problem.setup.max_iter > 1 {
             break problem;
         }
     };
-    let call = of(rng, Plan::RIGHT, solver, problem);
+    let call = of(rng, Plan::RIGHT, code, problem);
     with_error(rng, call)
 }
 
-/// The call of a problem, without the error's place; the workspace may be short.
-pub fn of(rng: &mut Rng, plan: Plan, solver: Solver, problem: Problem) -> Call {
+/// Every column count, and the rows where a walk by pages may go wrong.
+fn by_pages(rng: &mut Rng, code: Code) -> Call {
+    let (rows, cols) = (rows_by_pages(rng), rng.between(0, MAX_COLS));
+    let problem = kinds::sparse(rng, rows, cols);
+    let call = of(rng, Plan::RIGHT, code, problem);
+    with_error(rng, call)
+}
+
+/// The call of a problem in a layout, without the error's place; the workspace may be short.
+pub fn of(rng: &mut Rng, plan: Plan, code: Code, mut problem: Problem) -> Call {
     let sizes = [problem.rows, problem.cols];
+    if code.layout == Layout::ByColumns {
+        problem.theta = transposed(&problem.theta, problem.rows, problem.cols);
+    }
     call(
         rng,
         plan,
-        solver,
+        code.solver,
         sizes,
         problem.setup,
         &problem.theta,
@@ -202,6 +268,23 @@ fn library(call: &mut Call, export: raw::Fit) -> u64 {
     }
 }
 
+/// The call by rows on the transpose.
+fn on_transpose(call: &mut Call, by_rows: raw::Fit) -> u64 {
+    transpose(call);
+    library(call, by_rows)
+}
+
+/// Theta by rows where it stood by columns; one of the wrong length, which is refused, stays, and an empty one, which
+/// may have any count of rows.
+pub fn transpose(call: &mut Call) {
+    let (rows, cols) = (call.sizes[0], call.sizes[1]);
+    let theta = call.reads[0].numbers_mut();
+    if !theta.is_empty() && rows.checked_mul(cols) == Some(theta.len()) {
+        let by_rows = transposed(theta, cols, rows);
+        theta.copy_from_slice(&by_rows);
+    }
+}
+
 /// The setup of a call.
 pub fn setup(call: &Call) -> Setup {
     Setup {
@@ -211,11 +294,11 @@ pub fn setup(call: &Call) -> Setup {
     }
 }
 
-fn run_model(call: &mut Call, solver: Solver) -> u64 {
+fn run_model(call: &mut Call, code: Code) -> u64 {
     let setup = setup(call);
     let (workspace, _) = call.workspace.as_mut().expect("it has one");
     let answer = model::fit(
-        solver,
+        code,
         call.reads[0].numbers(),
         call.sizes[0],
         call.sizes[1],

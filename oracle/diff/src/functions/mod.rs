@@ -10,9 +10,8 @@ mod why;
 use crate::call::Function;
 pub use fits::SIZE as FIT_SIZE;
 
-/// Every export; `jtj` and `strlsq` once more at the sizes of a walk by pages, and the fits by the normal equations
-/// with many refits.
-pub const ALL: [Function; 22] = [
+/// Every export; some once more at the sizes of a walk by pages, or with many refits; `why` once in each layout.
+pub const ALL: [Function; 28] = [
     scalars::SQRT,
     scalars::ABS,
     builders::JTJ,
@@ -31,7 +30,13 @@ pub const ALL: [Function; 22] = [
     fits::STRLSQ_REFITS,
     fits::STRLSQ_PAGES,
     fits::MARQUARDT_REFITS,
+    fits::STRLSQ_BY_COLUMNS,
+    fits::STRLSQ_QR_BY_COLUMNS,
+    fits::STRLSQ_MARQUARDT_BY_COLUMNS,
+    fits::STRLSQ_BY_COLUMNS_PAGES,
+    fits::QR_BY_COLUMNS_REFITS,
     why::WHY,
+    why::WHY_BY_COLUMNS,
     scalars::STRLSQ_WORKSPACE,
     scalars::STRLSQ_QR_WORKSPACE,
     scalars::STRLSQ_MARQUARDT_WORKSPACE,

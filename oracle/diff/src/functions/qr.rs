@@ -28,6 +28,7 @@ pub const QR: Function = Function {
             workspace.numbers_mut(),
         ))
     },
+    alike: None,
     label: number_label,
 };
 
@@ -47,6 +48,7 @@ pub const LEAST_SQUARES: Function = Function {
             &mut call.column[0],
         ))
     },
+    alike: None,
     label: number_label,
 };
 

@@ -15,6 +15,7 @@ pub const SQRT: Function = Function {
     make: make_float,
     library: |call| raw::dapmotar_sqrt(call.floats[0]).to_bits(),
     model: |call| model::sqrt(call.floats[0]).to_bits(),
+    alike: None,
     label: float_label,
 };
 
@@ -23,6 +24,7 @@ pub const ABS: Function = Function {
     make: make_float,
     library: |call| raw::dapmotar_abs(call.floats[0]).to_bits(),
     model: |call| model::abs(call.floats[0]).to_bits(),
+    alike: None,
     label: float_label,
 };
 
@@ -31,6 +33,7 @@ pub const STRLSQ_WORKSPACE: Function = Function {
     make: make_sizes,
     library: |call| raw::dapmotar_strlsq_workspace(call.sizes[0], call.sizes[1]) as u64,
     model: |call| model::fit_workspace(Solver::Normal, call.sizes[0], call.sizes[1]) as u64,
+    alike: None,
     label: length_label,
 };
 
@@ -39,6 +42,7 @@ pub const STRLSQ_QR_WORKSPACE: Function = Function {
     make: make_sizes,
     library: |call| raw::dapmotar_strlsq_qr_workspace(call.sizes[0], call.sizes[1]) as u64,
     model: |call| model::fit_workspace(Solver::Qr, call.sizes[0], call.sizes[1]) as u64,
+    alike: None,
     label: length_label,
 };
 

@@ -28,6 +28,7 @@ pub const CHOLESKY: Function = Function {
             ))
         })
     },
+    alike: None,
     label: number_label,
 };
 
@@ -44,6 +45,7 @@ pub const LU: Function = Function {
             number(model::solve_lu(a.numbers_mut(), b.numbers_mut(), n, column))
         })
     },
+    alike: None,
     label: number_label,
 };
 
@@ -61,6 +63,7 @@ pub const NORMAL_EQUATIONS: Function = Function {
             &mut call.column[0],
         ))
     },
+    alike: None,
     label: number_label,
 };
 
@@ -78,6 +81,7 @@ pub const INVERT: Function = Function {
             &mut call.column[0],
         ))
     },
+    alike: None,
     label: number_label,
 };
 

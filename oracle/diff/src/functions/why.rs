@@ -7,30 +7,49 @@ use dapmotar::raw;
 use oracle::exchange::cause_label;
 use oracle::generate::{kinds, why_kinds};
 use oracle::model;
-use oracle::problem::Solver;
+use oracle::problem::{Code, Layout};
 use oracle::rng::Rng;
 
 /// A fit's call, with the term and the code behind its sizes, the value behind its outputs, and the cause at the head of
 /// its report: what stands behind that must stay.
 pub const WHY: Function = Function {
     name: "why",
-    make,
+    make: |rng| make(rng, Layout::ByRows),
     library,
     model: run_model,
+    alike: None,
     label,
 };
 
-fn make(rng: &mut Rng) -> Call {
+/// The same by columns: against the model, and against the call by rows on the transpose.
+pub const WHY_BY_COLUMNS: Function = Function {
+    name: "why_by_columns",
+    make: |rng| make(rng, Layout::ByColumns),
+    alike: Some(|call| {
+        fits::transpose(call);
+        if Code::of_number(call.sizes[4] as u64).is_some() {
+            call.sizes[4] -= 0x10;
+        }
+        library(call)
+    }),
+    ..WHY
+};
+
+fn make(rng: &mut Rng, layout: Layout) -> Call {
     let plan = Plan::new(rng);
-    let (solver, mut call) = if plan.is_right() {
+    let (code, mut call) = if plan.is_right() {
         let (_, problem) = why_kinds::any(rng, fits::SIZE);
-        (problem.solver, fits::of(rng, plan, problem.solver, problem))
+        let code = Code {
+            layout,
+            ..problem.code()
+        };
+        (code, fits::of(rng, plan, code, problem))
     } else {
         let solver = kinds::solver(rng);
-        (solver, fits::any(rng, plan, solver))
+        (Code { solver, layout }, fits::any(rng, plan, solver))
     };
     let term = term(rng, plan, call.sizes[1]);
-    call.sizes.extend([term, code(rng, solver)]);
+    call.sizes.extend([term, number(rng, code)]);
     call.writes.push(junk(rng, "value", 1));
     call
 }
@@ -52,23 +71,24 @@ fn term(rng: &mut Rng, plan: Plan, cols: usize) -> usize {
     }
 }
 
-/// The solver's code, or one that none has.
-fn code(rng: &mut Rng, solver: Solver) -> usize {
-    let code = usize::from(solver.code());
+/// The code's number, or one that none has.
+fn number(rng: &mut Rng, code: Code) -> usize {
+    let number = usize::from(code.number());
     if rng.once_in(20) {
         rng.pick(&[
             0,
             4,
-            0x11,
-            0x12,
-            0x13,
+            0x0b,
+            0x10,
+            0x14,
+            0x21,
             0xff,
-            code + (1 << 8),
-            code + (1 << 32),
+            number + (1 << 8),
+            number + (1 << 32),
             usize::MAX,
         ])
     } else {
-        code
+        number
     }
 }
 
@@ -141,7 +161,7 @@ fn label(call: &Call, answer: u64) -> String {
         return answer.to_string();
     }
     let [.., code] = sizes(call);
-    let solver = Solver::of_code(code as u64).expect("it is accepted");
+    let code = Code::of_number(code as u64).expect("it is accepted");
     let later = if call.report[1] > 1 { ", later" } else { "" };
-    format!("0 {}{later}", cause_label(solver, call.report[0]))
+    format!("0 {}{later}", cause_label(code, call.report[0]))
 }

@@ -3,18 +3,25 @@
 use super::{fit_sizes, part, part_mut, refused};
 use crate::fault::{self, Fault};
 use crate::fits::{By, Fit, workspace as needed_by};
+use crate::layout::Layout;
 use crate::sizes::clear;
 
-/// The fit of a code, if there is one.
-fn by(code: u64) -> Option<By> {
+/// The fit of a code and its layout, if there is one.
+fn by(code: u64) -> Option<(By, Layout)> {
     let code = fault::or(code, Fault::WhyCodeCut, code & 0xff);
-    match fault::or(code, Fault::WhyCodeByColumns, code & 0xf) {
-        _ if fault::is(Fault::WhySolverIgnored) => Some(By::Normal),
-        1 => Some(By::Normal),
-        2 => Some(By::Qr),
-        3 => Some(By::Marquardt),
-        _ => None,
-    }
+    let columns = fault::or(Layout::ByColumns, Fault::WhyColumnsAsRows, Layout::ByRows);
+    let (by, layout) = match code {
+        1 => (By::Normal, Layout::ByRows),
+        2 => (By::Qr, Layout::ByRows),
+        3 => (By::Marquardt, Layout::ByRows),
+        0x11 => (By::Normal, columns),
+        0x12 => (By::Qr, columns),
+        0x13 => (By::Marquardt, columns),
+        0x10 if fault::is(Fault::WhyCodeTen) => (By::Normal, columns),
+        0x14 if fault::is(Fault::WhyCodeFourteen) => (By::Marquardt, columns),
+        _ => return None,
+    };
+    Some((fault::or(by, Fault::WhySolverIgnored, By::Normal), layout))
 }
 
 #[unsafe(no_mangle)]
@@ -38,9 +45,11 @@ pub unsafe extern "C" fn dapmotar_why(
     value: *mut [f64; 1],
 ) -> u64 {
     let known = by(code);
+    let (by, layout) = known.unwrap_or((By::Normal, Layout::ByRows));
     let fit = Fit {
-        by: known.unwrap_or(By::Normal),
-        theta: unsafe { part(theta, theta_len) },
+        by,
+        layout,
+        numbers: unsafe { part(theta, theta_len) },
         rows: n_rows,
         cols: n_cols,
         target: unsafe { part(target, target_len) },
@@ -61,6 +70,9 @@ pub unsafe extern "C" fn dapmotar_why(
             unsafe { (*cause, *value) = ([0; 2], [0.0]) };
         }
         return refused(number, coeffs, workspace);
+    }
+    if target_len != n_rows {
+        return 0;
     }
     let needed = needed_by(fit.by, n_rows, n_cols);
     workspace[..needed.min(workspace_len)].fill(7.0);

@@ -56,7 +56,7 @@ returns c =
     let count = counted .count in
     let a = start .args in
     rw (← count .ensures, ← root .sqrt .ensures .value)
-    (augmented-is (a .n-rows) (a .n-cols) (a .support .0) (count .result) (root .sqrt .result) (now (a .theta)) _ (now (a .s)) _ _ (count .ensures)
+    (augmented-is (a .n-rows) (a .n-cols) (a .support .0) (count .result) (root .sqrt .result) _ _ (now (a .s)) _ _ (count .ensures)
     (rw (count .ensures) (start .pre .2)) (listed .list-terms .ensures) (gathered .gather .ensures) (below .add-ridge .ensures))
 
 pub augment-with-spec : {M : Type 1} → statement M

@@ -3,8 +3,8 @@ use borrow.Author.Needs.{needs}
 use Rattle.capi.proofs.explain.dapmotar_why.Statement.{statement}
 use Rattle.capi.proofs.explain.dapmotar_why.Tie as tie
 
-solver-of-requires : tie.Need-solver-of-requires
-solver-of-requires c κs = search needs
+by-code-requires : tie.Need-by-code-requires
+by-code-requires c κs = search needs
 
 why-by-requires : tie.Need-why-by-requires
 why-by-requires c κs = search needs
@@ -28,7 +28,7 @@ returns c =
     let at-code = at-why .before .before .before in
     record {
       answer = at-why .why-by .result;
-      call = record { why = rw (← at-code .solver-of .ensures) (at-why .why-by .ensures); cause = at-put .put-cause .ensures .0; value = at-put .put-cause .ensures .1 };
+      call = record { why = rw (← at-code .by-code .ensures) (at-why .why-by .ensures); cause = at-put .put-cause .ensures .0; value = at-put .put-cause .ensures .1 };
       number = c .caused-number .ensures;
     }
 
@@ -36,7 +36,7 @@ pub dapmotar-why-spec : {M : Type 1} → statement M
 dapmotar-why-spec =
     tie.close
     (tie.spec
-    solver-of-requires
+    by-code-requires
     why-by-requires
     put-cause-requires
     caused-number-requires

@@ -7,8 +7,8 @@ use Rattle.capi.proofs.explain.why_by.Tie as tie
 enum-known-code : tie.Need-enum-known-code
 enum-known-code c = search needs
 
-why-requires : tie.Need-why-requires
-why-requires c κs = search needs
+why-task-requires : tie.Need-why-task-requires
+why-task-requires c κs = search needs
 
 enum-told : tie.Need-enum-told
 enum-told c = search needs
@@ -23,7 +23,7 @@ returns : tie.Need-returns
 returns c =
     let at-why = c .before .before .before .before in
     let known = at-why .before .before .before .before .code .given .1 in
-    rw known (at-why .why .ensures)
+    rw known (at-why .why-task .ensures)
 
 returns-2 : tie.Need-returns-2
 returns-2 c = rw (c .enum-told .given .1) (record { answer = refl; coeffs = refl; space = refl })
@@ -31,4 +31,4 @@ returns-2 c = rw (c .enum-told .given .1) (record { answer = refl; coeffs = refl
 pub why-by-spec : {M : Type 1} → statement M
 why-by-spec =
     tie.close
-    (tie.spec enum-known-code why-requires enum-told same-length same-length-2 returns returns-2)
+    (tie.spec enum-known-code why-task-requires enum-told same-length same-length-2 returns returns-2)

@@ -2,19 +2,19 @@
 use native.Mathlib.Omega.{arith}
 use borrow.Author.Needs.{needs}
 use Rattle.exchange.specs.Exchange.{theta-asked, target-asked}
-use Rattle.exchange.specs.Reading.{theta-room, rows-fine}
+use Rattle.exchange.specs.Reading.{theta-room, all-formed}
 use Rattle.exchange.proofs.inner.read_rows.Statement.{statement}
 use Rattle.exchange.proofs.inner.read_rows.Tie as tie
 
 read-theta-requires : tie.Need-read-theta-requires
 read-theta-requires c κs =
     let ok = c .before .before .before .before .pre .0 in
-    (rows-fine ok, omega (arith, theta-room (ok .limited)))
+    (all-formed ok, omega (arith, theta-room (ok .limited)))
 
 read-target-requires : tie.Need-read-target-requires
 read-target-requires c κs =
     let start = c .before .before .before .before .before .before .before .before in
-    (rows-fine (start .pre .0), omega arith)
+    (all-formed (start .pre .0), omega arith)
 
 same-length : tie.Need-same-length
 same-length c = search needs

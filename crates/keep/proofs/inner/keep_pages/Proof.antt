@@ -4,18 +4,19 @@ use Prim.Native.Nat.{_+_, _-_, _≤_}
 use native.Mathlib.Nat.{mul-le-mul-right}
 use native.Mathlib.Omega.{arith}
 use lib.ListN.{length}
-use Rattle.steps.specs.Num.{at, cell}
+use Rattle.steps.specs.Num.{at}
+use Rattle.places.specs.Stored.{stored}
 use Rattle.keep.specs.Taken.{KeptSums}
 use Rattle.keep.proofs.Taking.{kept-more}
 use Rattle.keep.proofs.inner.keep_pages.Statement.{statement}
 use Rattle.keep.proofs.inner.keep_pages.Tie as tie
 
 abbrev Inv-loop : tie.InvT-loop
-Inv-loop theta target n-rows n-cols page₀ sums₀ left₀ page sums left =
-    (left ≤ n-rows) × (length page ≡ length page₀) × KeptSums (cell n-cols theta) (at target) n-cols (n-rows - left) sums
+Inv-loop layout theta target n-rows n-cols page₀ sums₀ left₀ page sums left =
+    (left ≤ n-rows) × (length page ≡ length page₀) × KeptSums (stored layout n-rows n-cols theta) (at target) n-cols (n-rows - left) sums
 
 abbrev μ-loop : tie.MeasureT-loop
-μ-loop theta target n-rows n-cols page₀ sums₀ left₀ page sums left = left
+μ-loop layout theta target n-rows n-cols page₀ sums₀ left₀ page sums left = left
 
 loop-holds : tie.Need-loop-holds Inv-loop μ-loop
 loop-holds c =
@@ -24,7 +25,7 @@ loop-holds c =
     (omega arith, refl, rw none (start .pre .3))
 
 page-rows-requires : tie.Need-page-rows-requires Inv-loop μ-loop
-page-rows-requires c κs = omega (arith, c .loop-test .taken)
+page-rows-requires c κs = (omega (arith, c .loop-test .taken), omega arith)
 
 sub-i : tie.Need-sub-i Inv-loop μ-loop
 sub-i c = omega (arith, c .before .before .loop .inv .0)
@@ -34,10 +35,8 @@ fill-page-requires c κs =
     let next = c .before in
     let head = next .before .before in
     let start = head .before .before .before .before .before in
-    let n = start .args .n-cols in
-    let m = start .args .n-rows in
-    let rows : m - head .loop .left + next .page-rows .result ≤ m = omega (arith, head .loop .inv .0, next .page-rows .ensures .1) in
-    (omega (arith, start .pre .0 .cells, mul-le-mul-right n rows), omega (arith, start .pre .2, head .loop .inv .1, mul-le-mul-right n (next .page-rows .ensures .2)))
+    let few = mul-le-mul-right (start .args .n-cols) (next .page-rows .ensures .2) in
+    (start .pre .0, omega (arith, head .loop .inv .0, next .page-rows .ensures .1), omega (arith, start .pre .2, head .loop .inv .1, few))
 
 take-page-requires : tie.Need-take-page-requires Inv-loop μ-loop
 take-page-requires c κs =

@@ -47,7 +47,7 @@ unfolding withPart
 returns c =
     let mirrored = c .before .before in
     let kept = mirrored .before .before .before .before in
-    kept-end _ _ _ _ (kept .keep-rows .last .1 .1 .1 .1 .0) (mirrored .mirror .last .0) (kept .keep-rows .ensures) (mirrored .mirror .ensures)
+    kept-end _ _ _ _ (kept .keep-rows .last .1 .1 .1 .1 .1 .0) (mirrored .mirror .last .0) (kept .keep-rows .ensures) (mirrored .mirror .ensures)
 
 pub keep-sums-spec : {M : Type 1} → statement M
 keep-sums-spec =

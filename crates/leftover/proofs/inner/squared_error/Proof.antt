@@ -13,14 +13,14 @@ slice-aggregate-list-terms c = search needs
 list-terms-requires : tie.Need-list-terms-requires
 list-terms-requires c κs = search needs
 
-slice-aggregate-walk : tie.Need-slice-aggregate-walk
-slice-aggregate-walk c = search needs
+slice-aggregate-walk-stored : tie.Need-slice-aggregate-walk-stored
+slice-aggregate-walk-stored c = search needs
 
 count-requires : tie.Need-count-requires
 count-requires c κs = search needs
 
-walk-requires : tie.Need-walk-requires
-walk-requires c κs =
+walk-stored-requires : tie.Need-walk-stored-requires
+walk-stored-requires c κs =
     let at-list = c .before .before .before in
     let start = at-list .before .before .before .before .before in
     let a = start .args in
@@ -35,8 +35,8 @@ returns c =
     let at-count = c .before in
     let at-list = at-count .before .before .before in
     let a = at-list .before .before .before .before .before .args in
-    error-listed (a .n-rows) (a .n-cols) _ _ _ (a .kept .0) (now (a .coeffs)) _ (at-list .list-terms .ensures) (at-count .count .ensures) (c .walk .ensures)
+    error-listed (a .n-rows) (a .n-cols) _ _ _ (a .kept .0) (now (a .coeffs)) _ (at-list .list-terms .ensures) (at-count .count .ensures) (c .walk-stored .ensures)
 
 pub squared-error-spec : {M : Type 1} → statement M
 squared-error-spec =
-    tie.close (tie.spec slice-aggregate-list-terms list-terms-requires slice-aggregate-walk count-requires walk-requires returns)
+    tie.close (tie.spec slice-aggregate-list-terms list-terms-requires slice-aggregate-walk-stored count-requires walk-stored-requires returns)

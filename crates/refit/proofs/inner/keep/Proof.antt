@@ -7,6 +7,7 @@ use borrow.Author.Needs.{needs}
 use lib.ListN.{length, take}
 use denote.Ref.{now}
 use Rattle.sums.specs.Kept.{kept-size}
+use Rattle.rule.specs.Fits.{matrix-of}
 use Rattle.refit.proofs.Methods.{from-sums, from-rows}
 use Rattle.refit.proofs.Large.{sums-fit}
 use Rattle.refit.proofs.Joined.{length-head}
@@ -62,12 +63,13 @@ same-length : tie.Need-same-length
 same-length c = search needs
 
 returns : tie.Need-returns
+unfolding matrix-of
 returns c =
     let sums = c .before .before .keep-sums in
     let told = c .before .before .before .before in
     let a = start told .args in
-    kept-now (a .task) (now (a .theta)) (now (a .target)) (sums .last .1 .1 .1 .1 .0) _
-    (sums .kept .1 .1 .1 .1 .0 ∙ long told) (sums .ensures)
+    kept-now (a .task) (now (a .theta)) (now (a .target)) (sums .last .1 .1 .1 .1 .1 .0) _
+    (sums .kept .1 .1 .1 .1 .1 .0 ∙ long told) (sums .ensures)
 
 returns-2 : tie.Need-returns-2
 returns-2 c =

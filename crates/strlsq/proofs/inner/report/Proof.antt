@@ -3,6 +3,7 @@ use Prim.Native.Nat.{_^_, _<_}
 use borrow.Author.Needs.{needs}
 use denote.Ref.{now}
 use Rattle.support.specs.WordLaws.{word-lt}
+use Rattle.rule.specs.Fits.{matrix-of}
 use Rattle.strlsq.proofs.Report.{reports}
 use Rattle.strlsq.proofs.inner.report.Statement.{statement}
 use Rattle.strlsq.proofs.inner.report.Tie as tie
@@ -18,6 +19,7 @@ squared-error-requires c κs =
     (record { few-columns = sized .limited .few-cols; few-rows = sized .limited .few-rows; matrix = sized .theta-long; terms = terms }, sized .target-long, start .pre .1)
 
 returns : tie.Need-returns
+unfolding matrix-of
 returns c =
     let at-word = c .before in
     let start = at-word .before .before .before .before .before in

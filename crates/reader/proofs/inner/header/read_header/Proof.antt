@@ -1,9 +1,9 @@
--- `read_header` makes its definition's tests one by one.
+-- `read_header` tests the form, then asks for the code.
 use mathlib.Core.Path.{_≡_, sym, _∙_}
 use mathlib.Core.Bool.{true}
 use native.Mathlib.Omega.{arith}
 use borrow.Author.Needs.{needs}
-use borrow.Author.Tests.{eq-eqb, ne-eqb, not-true, not-false}
+use borrow.Author.Tests.{not-true, not-false}
 use Rattle.hex.specs.Hex.{Digits}
 use Rattle.hex.specs.Parts.{part-digits}
 use Rattle.reader.specs.Header.{header-digits, header-formed, head-of}
@@ -28,48 +28,31 @@ returns c = simp (sym (c .before .formed .ensures) ∙ not-true _ (c .if1 .taken
 number-at-requires : tie.Need-number-at-requires
 number-at-requires c κs = (part-digits 0 2 (digits c) (omega arith) (omega arith), omega arith)
 
+by-code-requires : tie.Need-by-code-requires
+by-code-requires c κs = search needs
+
+enum-known-layout : tie.Need-enum-known-layout
+enum-known-layout c = search needs
+
 fields-requires : tie.Need-fields-requires
-fields-requires c κs = digits (c .before .before)
+fields-requires c κs = digits (c .before .before .before .before .before)
+
+enum-told : tie.Need-enum-told
+enum-told c = search needs
 
 returns-2 : tie.Need-returns-2
 unfolding head-of
 returns-2 c =
-    let tested = c .before .before .before in
-    simp (is-formed tested, eq-eqb _ _ (sym (c .before .before .number-at .ensures) ∙ c .before .if2 .taken), ← c .fields .ensures)
-
-fields-requires-2 : tie.Need-fields-requires-2
-fields-requires-2 c κs = digits (c .before .before .before)
+    let known = c .before .before in
+    let coded = known .before .before in
+    simp (is-formed (coded .before .before), ← coded .before .number-at .ensures, ← coded .by-code .ensures, known .layout .given .1, ← c .fields .ensures)
 
 returns-3 : tie.Need-returns-3
 unfolding head-of
 returns-3 c =
-    let tested = c .before .before .before .before in
-    simp (is-formed tested, ← c .before .before .before .number-at .ensures, ne-eqb _ _ (c .before .before .if2 .left), eq-eqb _ _ (c .before .if3 .taken), ← c .fields2 .ensures)
-
-fields-requires-3 : tie.Need-fields-requires-3
-fields-requires-3 c κs = digits (c .before .before .before .before)
-
-returns-4 : tie.Need-returns-4
-unfolding head-of
-returns-4 c =
-    let third = c .before in
-    let second = third .before in
-    let first = second .before in
-    simp (
-      is-formed (first .before .before),
-      ← first .before .number-at .ensures,
-      ne-eqb _ _ (first .if2 .left),
-      ne-eqb _ _ (second .if3 .left),
-      eq-eqb _ _ (third .if4 .taken),
-      ← c .fields3 .ensures,
-    )
-
-returns-5 : tie.Need-returns-5
-unfolding head-of
-returns-5 c =
-    let second = c .before in
-    let first = second .before in
-    simp (is-formed (first .before .before), ← first .before .number-at .ensures, ne-eqb _ _ (first .if2 .left), ne-eqb _ _ (second .if3 .left), ne-eqb _ _ (c .if4 .left))
+    let coded = c .before .before in
+    simp (is-formed (coded .before .before), ← coded .before .number-at .ensures, ← coded .by-code .ensures, c .enum-told .given .1)
 
 pub read-header-spec : {M : Type 1} → statement M
-read-header-spec = tie.close (tie.spec formed-requires returns number-at-requires fields-requires returns-2 fields-requires-2 returns-3 fields-requires-3 returns-4 returns-5)
+read-header-spec =
+    tie.close (tie.spec formed-requires returns number-at-requires by-code-requires enum-known-layout fields-requires enum-told returns-2 returns-3)

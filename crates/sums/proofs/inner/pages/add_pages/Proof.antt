@@ -23,13 +23,13 @@ loop-holds c =
     (omega arith, refl, rw none (start .pre .2))
 
 page-rows-requires : tie.Need-page-rows-requires Inv-loop μ-loop
-page-rows-requires c κs = omega (arith, c .loop-test .taken)
+page-rows-requires c κs = (omega (arith, c .loop-test .taken), omega arith)
 
-sub-fill-page : tie.Need-sub-fill-page Inv-loop μ-loop
-sub-fill-page c = omega (arith, c .before .before .loop .inv .0)
+sub-fill-rows : tie.Need-sub-fill-rows Inv-loop μ-loop
+sub-fill-rows c = omega (arith, c .before .before .loop .inv .0)
 
-fill-page-requires : tie.Need-fill-page-requires Inv-loop μ-loop
-fill-page-requires c κs =
+fill-rows-requires : tie.Need-fill-rows-requires Inv-loop μ-loop
+fill-rows-requires c κs =
     let next = c .before in
     let head = next .before .before in
     let start = head .before .before .before .before in
@@ -46,7 +46,7 @@ add-page-requires c κs =
     let head = next .before .before in
     let start = head .before .before .before .before in
     record {
-      room = omega (arith, start .pre .1, head .loop .inv .1, filled .fill-page .kept, mul-le-mul-right (start .args .n-cols) (next .page-rows .ensures .2));
+      room = omega (arith, start .pre .1, head .loop .inv .1, filled .fill-rows .kept, mul-le-mul-right (start .args .n-cols) (next .page-rows .ensures .2));
       square = head .loop .inv .2 .square;
     }
 
@@ -75,8 +75,8 @@ loop-again c =
     let h = next .page-rows .result in
     let rows : m - (turn .left - h) ≡ m - turn .left + h = omega (arith, turn .inv .0, next .page-rows .ensures .1) in (
       omega (arith, turn .inv .0),
-      omega (arith, filled .fill-page .kept, turn .inv .1),
-      rw rows (sums-more _ _ _ _ _ _ _ (filled .fill-page .ensures) (turn .inv .2) (added .add-page .ensures)),
+      omega (arith, filled .fill-rows .kept, turn .inv .1),
+      rw rows (sums-more _ _ _ _ _ _ _ (filled .fill-rows .ensures) (turn .inv .2) (added .add-page .ensures)),
     )
 
 same-length : tie.Need-same-length Inv-loop μ-loop
@@ -102,8 +102,8 @@ add-pages-spec =
     μ-loop
     loop-holds
     page-rows-requires
-    sub-fill-page
-    fill-page-requires
+    sub-fill-rows
+    fill-rows-requires
     add-page-requires
     sub-left
     loop-less
