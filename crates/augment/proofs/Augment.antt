@@ -13,12 +13,12 @@ use lib.Ieee.{Float, nan}
 use borrow.Author.Tests.{lt-ltb, le-ltb}
 use Rattle.steps.specs.Num.{+zero, Entry, at, cell}
 use Rattle.steps.specs.Cond.{lt_or_ge}
-use Rattle.steps.specs.Table.{tab, is-tab, table, is-table}
-use Rattle.steps.specs.Space.{cleared, cleared_all, with_part, length-with, get_with, get_after}
+use Rattle.steps.specs.Table.{tab, is_tab, table, is_table}
+use Rattle.steps.specs.Space.{cleared, cleared_all, with_part, length_with, get_with, get_after}
 use Rattle.steps.specs.Wrote.{Wrote}
 use Rattle.steps.specs.Rows.{Rows, rows_apart}
 use Rattle.places.specs.Columns.{columns, Lists, listed}
-use Rattle.places.specs.ColumnLaws.{listed-is}
+use Rattle.places.specs.ColumnLaws.{listed_is}
 use Rattle.rule.specs.Fits.{augmented, padded}
 use Rattle.augment.specs.Ridged.{Ridged}
 
@@ -47,20 +47,20 @@ module _ (rows n w k : ℕ) (root : Float) (e : Entry) (l : List ℕ) (s s₁ s�
   entry : (i c : ℕ) → i < rows + k → c < k → (i < rows) ⊎ (rows ≤ i) → cell k s₂ i c ≡ augmented rows root (columns n w e) i c
   unfolding augmented
   entry i c h g (inl b) =
-      low.old i c b g ∙ top.new i c b g ∙ listed-is n w l ls e i c (omega arith) ∙ sym (rw (lt-ltb i rows b))
+      low.old i c b g ∙ top.new i c b g ∙ listed_is n w l ls e i c (omega arith) ∙ sym (rw (lt-ltb i rows b))
   entry i c h g (inr b) =
       let row : rows + (i - rows) ≡ i = omega arith in
       subst (λ (x : ℕ). cell k s₂ x c ≡ cond (eqb (i - rows) c) root +zero) row (low.new (i - rows) c (omega arith) g) ∙ sym (rw (le-ltb i rows b))
 
-  pub augmented-is : s₂ ≡ table (rows + k) k (augmented rows root (columns n w e))
-  augmented-is = is-table (rows + k) k _ s₂ nan (low.long ∙ top.long ∙ len) (λ i c h g. entry i c h g (lt_or_ge i rows))
+  pub augmented_is : s₂ ≡ table (rows + k) k (augmented rows root (columns n w e))
+  augmented_is = is_table (rows + k) k _ s₂ nan (low.long ∙ top.long ∙ len) (λ i c h g. entry i c h g (lt_or_ge i rows))
 
 -- the target copied over zeros, as a part from 0 comes back
 pub padded_is : (k : ℕ) (t u b b' : List Float) → length b ≡ length t + k → u ≡ t → b' ≡ cleared (length t + k) b → with_part 0 (length t) u b' ≡ tab (length t + k) (padded (length t) (at t))
 unfolding padded
 padded_is k t u b b' len is-u is_b =
     rw (is-u, is_b, cleared_all (length t + k) b len)
-    (is-tab (length t + k) _ (with_part 0 (length t) t zs) nan (length-with 0 (length t) t zs (omega arith) fits whole ∙ long) (λ i h. by i h (lt_or_ge i (length t))))
+    (is_tab (length t + k) _ (with_part 0 (length t) t zs) nan (length_with 0 (length t) t zs (omega arith) fits whole ∙ long) (λ i h. by i h (lt_or_ge i (length t))))
   where
     zs : List Float
     zs = replicate (length t + k) +zero

@@ -5,7 +5,7 @@ use Rattle.steps.specs.Num.{Entry, cell}
 use Rattle.steps.specs.Cond.{lt_or_ge}
 use Rattle.steps.specs.Rows.{Rows}
 use Rattle.steps.specs.Wrote.{Wrote}
-use Rattle.places.specs.Down.{down-own, down-other, down-outside}
+use Rattle.places.specs.Down.{down_own, down_other, down_outside}
 
 -- of n columns the first m have the numbers of f in the h rows from row i on; the other rows are those of s
 pub record Taken (n : ℕ) (f : Entry) (i h m : ℕ) (s s' : List Float) : Type 0 where
@@ -23,10 +23,10 @@ taken_more n f i h m first s s' s'' b e t w =
     record {
       long = w.long ∙ t.long;
       new = λ k c a l. ⊎_elim
-          (λ (q : c ≡ m). rw q (down-own n i m h first _ s' s'' e b w k a))
-          (λ (z : c < m). down-other n i m h first _ s' s'' e b w (i + k) c (omega arith) (λ q. omega arith) ∙ t.new k c a z)
+          (λ (q : c ≡ m). rw q (down_own n i m h first _ s' s'' e b w k a))
+          (λ (z : c < m). down_other n i m h first _ s' s'' e b w (i + k) c (omega arith) (λ q. omega arith) ∙ t.new k c a z)
           (eq-or-lt_of_le (let z : c ≤ m = omega arith in z));
-      old = λ r c out l. down-outside n i m h first _ s' s'' e b w r c l out ∙ t.old r c out l;
+      old = λ r c out l. down_outside n i m h first _ s' s'' e b w r c l out ∙ t.old r c out l;
     }
 
 -- the rows before them are done: then so are these

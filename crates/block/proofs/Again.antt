@@ -6,7 +6,7 @@ use native.Mathlib.Omega.{arith}
 use lib.ListN.{length, take, length-take, length-drop}
 use lib.Ieee.{Float}
 use Rattle.steps.specs.Num.{Entry, cell}
-use Rattle.steps.specs.Space.{part, with_part, length-with, part-with, front_with}
+use Rattle.steps.specs.Space.{part, with_part, length_with, part_with, front_with}
 use Rattle.steps.specs.Table.{table}
 use Rattle.sums.specs.Products.{jtj_matrix}
 use Rattle.sums.specs.ProductLaws.{jtj_cong, damped_table}
@@ -22,19 +22,19 @@ module _ {n k : ℕ} {m s : List Float} (t u : List Float) (room : length t ≡ 
   fills : length u ≡ kept_size n + k * k - kept_size n
   fills = long ∙ simp (length-take, length-drop) (omega arith)
 
-  pub left-long : length left ≡ length t
-  left-long = length-with (kept_size n) (kept_size n + k * k) u t (omega arith) (omega arith) fills
+  pub left_long : length left ≡ length t
+  left_long = length_with (kept_size n) (kept_size n + k * k) u t (omega arith) (omega arith) fills
 
   -- the kept sums are as they were
-  pub left-kept : take (kept_size n) left ≡ take (kept_size n) s
-  left-kept = front_with (kept_size n) (kept_size n + k * k) u t (omega arith) ∙ is.kept
+  pub left_kept : take (kept_size n) left ≡ take (kept_size n) s
+  left_kept = front_with (kept_size n) (kept_size n + k * k) u t (omega arith) ∙ is.kept
 
   -- the block f is damped in its place
-  pub left-damped : (damp : Float → Float) (f : Entry) → m ≡ table k k f → u ≡ jtj_matrix damp k (cell k (part (kept_size n) (kept_size n + k * k) t)) → Taken n k (jtj_matrix damp k f) s left
-  left-damped damp f e d =
+  pub left_damped : (damp : Float → Float) (f : Entry) → m ≡ table k k f → u ≡ jtj_matrix damp k (cell k (part (kept_size n) (kept_size n + k * k) t)) → Taken n k (jtj_matrix damp k f) s left
+  left_damped damp f e d =
       record {
-        kept = left-kept;
-        block = part-with (kept_size n) (kept_size n + k * k) u t (omega arith) (omega arith) fills ∙ d ∙ ap (λ (x : List Float). jtj_matrix damp k (cell k x)) (is.block ∙ e) ∙ damped_table damp k f;
+        kept = left_kept;
+        block = part_with (kept_size n) (kept_size n + k * k) u t (omega arith) (omega arith) fills ∙ d ∙ ap (λ (x : List Float). jtj_matrix damp k (cell k x)) (is.block ∙ e) ∙ damped_table damp k f;
       }
 
 -- a block taken anew from the same kept sums is the same block

@@ -4,7 +4,7 @@ use mathlib.Core.List.{List}
 use Prim.Native.Nat.{ℕ}
 use lib.Count.{ones}
 use lib.Ieee.{Float}
-use Rattle.steps.specs.Table.{tab-cong}
+use Rattle.steps.specs.Table.{tab_cong}
 use Rattle.places.specs.Columns.{Lists}
 use Rattle.sums.specs.Products.{jtj_matrix, jtr_column}
 use Rattle.sums.specs.ProductLaws.{jtj_cong}
@@ -16,6 +16,6 @@ module _ (n w : ℕ) {table : List ℕ} (l : Lists n w table) (s : List Float) w
   unfolding listed_pair block
   block_listed damp = jtj_cong damp (ones w) _ _ (λ p q hp hq. ap₂ (pair n s) (l.each p hp) (l.each q hq))
 
-  pub side-listed : jtr_column (ones w) (listed_product n table s) ≡ jtr_column (ones w) (side n w (product n s))
+  pub side_listed : jtr_column (ones w) (listed_product n table s) ≡ jtr_column (ones w) (side n w (product n s))
   unfolding listed_product side jtr_column
-  side-listed = tab-cong (ones w) _ _ (λ p h. ap (product n s) (l.each p h))
+  side_listed = tab_cong (ones w) _ _ (λ p h. ap (product n s) (l.each p h))

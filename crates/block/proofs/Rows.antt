@@ -16,8 +16,8 @@ use Rattle.block.specs.Listed.{RowTaken, Taken}
 
 -- one row: before its first place, and one place more
 module _ (n k p : ℕ) (g : ℕ → Float) (s : List Float) where
-  pub row-none : RowTaken n k p 0 g s s
-  row-none = record { long = refl; kept = refl; row = wrote_none _ _ _ _ }
+  pub row_none : RowTaken n k p 0 g s s
+  row_none = record { long = refl; kept = refl; row = wrote_none _ _ _ _ }
 
   pub row_more : (q : ℕ) (t u : List Float) (x : Float) → length s ≡ kept_size n + k * k → p < k → q < k → RowTaken n k p q g s t → u ≡ set t (kept_size n + (p * k + q)) x → x ≡ g q
       → RowTaken n k p (q + 1) g s u

@@ -1,7 +1,7 @@
 -- What `jtj`, `jtj_marquardt` and `jtr` answer and leave. Assumes nothing.
 use Rattle.std.specs.Prelude.{◌≡◌, not, List, ℕ, ◌*◌, ltb, eqb, length, Float}
 use Rattle.steps.specs.Num.{at, cell}
-use Rattle.refusal.specs.Answers.{refuse_if, if-done, and_then}
+use Rattle.refusal.specs.Answers.{refuse_if, if_done, and_then}
 use Rattle.refusal.specs.declared.Answer.{Answer}
 use Rattle.refusal.specs.declared.Answer.TheVariants.{Done}
 use Rattle.refusal.specs.declared.Refusal.TheVariants.{ManyColumns, ManyRows, MatrixLength, TargetLength, OutputLength}
@@ -24,9 +24,9 @@ jtr_sizes rows n matrix target out =
 -- `jtj`, damped by `ridge`, and `jtj_marquardt`: the pair sums of the columns, damped
 pub record JtjCall (damp : Float → Float) (jac : List Float) (rows n : ℕ) (out out' : List Float) (r : Answer) : Type 0 where
   pub answer : r ≡ jtj_sizes rows n (length jac) (length out)
-  pub matrix : out' ≡ if-done r (jtj_matrix damp n (gram (cell n jac) rows)) out
+  pub matrix : out' ≡ if_done r (jtj_matrix damp n (gram (cell n jac) rows)) out
 
 -- `jtr`: the products of the columns and the target
 pub record JtrCall (jac t : List Float) (rows n : ℕ) (out out' : List Float) (r : Answer) : Type 0 where
   pub answer : r ≡ jtr_sizes rows n (length jac) (length t) (length out)
-  pub column : out' ≡ if-done r (jtr_column n (moment (cell n jac) (at t) rows)) out
+  pub column : out' ≡ if_done r (jtr_column n (moment (cell n jac) (at t) rows)) out

@@ -11,26 +11,26 @@ use Rattle.sums.specs.Inner.{Matrix}
 use Rattle.builders.specs.Calls.{matrix_sizes, jtj_sizes, jtr_sizes}
 
 module _ {rows n matrix : ℕ} {sizes : Answer} where
-  pub matrix-fits : sizes ≡ matrix_sizes rows n matrix → sizes ≡ Done → Matrix rows n matrix
+  pub matrix_fits : sizes ≡ matrix_sizes rows n matrix → sizes ≡ Done → Matrix rows n matrix
   unfolding matrix_sizes
-  matrix-fits judged e =
+  matrix_fits judged e =
       let few = not_refused (ltb 64 n) ManyColumns _ (sym judged ∙ e) in
       let short = not_refused (ltb 4096 rows) ManyRows _ few.1 in
       let cells = not_refused (not (eqb matrix (rows * n))) MatrixLength _ short.1 in
       record { few_columns = ltb-false _ _ few.0; few_rows = ltb-false _ _ short.0; cells = eqb-true _ _ (not-false _ cells.0) }
 
 module _ {rows n matrix : ℕ} {sizes : Answer} where
-  pub jtj-fits : {out : ℕ} → sizes ≡ jtj_sizes rows n matrix out → sizes ≡ Done → Matrix rows n matrix × (out ≡ n * n)
+  pub jtj_fits : {out : ℕ} → sizes ≡ jtj_sizes rows n matrix out → sizes ≡ Done → Matrix rows n matrix × (out ≡ n * n)
   unfolding jtj_sizes
-  jtj-fits {out} judged e =
+  jtj_fits {out} judged e =
       let both = both_done (matrix_sizes rows n matrix) _ (sym judged ∙ e) in
       let square = not_refused (not (eqb out (n * n))) OutputLength _ both.1 in
-      (matrix-fits refl both.0, eqb-true _ _ (not-false _ square.0))
+      (matrix_fits refl both.0, eqb-true _ _ (not-false _ square.0))
 
-  pub jtr-fits : {target out : ℕ} → sizes ≡ jtr_sizes rows n matrix target out → sizes ≡ Done → Matrix rows n matrix × (target ≡ rows) × (out ≡ n)
+  pub jtr_fits : {target out : ℕ} → sizes ≡ jtr_sizes rows n matrix target out → sizes ≡ Done → Matrix rows n matrix × (target ≡ rows) × (out ≡ n)
   unfolding jtr_sizes
-  jtr-fits {target} {out} judged e =
+  jtr_fits {target} {out} judged e =
       let both = both_done (matrix_sizes rows n matrix) _ (sym judged ∙ e) in
       let column = not_refused (not (eqb target rows)) TargetLength _ both.1 in
       let values = not_refused (not (eqb out n)) OutputLength _ column.1 in
-      (matrix-fits refl both.0, eqb-true _ _ (not-false _ column.0), eqb-true _ _ (not-false _ values.0))
+      (matrix_fits refl both.0, eqb-true _ _ (not-false _ column.0), eqb-true _ _ (not-false _ values.0))

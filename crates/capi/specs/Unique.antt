@@ -41,56 +41,56 @@ numbered : {A : Type 0} {number_of_lem : A → ℕ} {C D : A → Type 0} {r s : 
 numbered p q same = cc
 
 module _ (jac : List Float) (rows n : ℕ) (out out' out'' : List Float) (r s : ℕ) where
-  pub export-jtj-unique : (damp : Float → Float) → Numbered answer_number (JtjCall damp jac rows n out out') r → Numbered answer_number (JtjCall damp jac rows n out out'') s → (r ≡ s) × (out' ≡ out'')
-  export-jtj-unique damp p q =
+  pub export_jtj_unique : (damp : Float → Float) → Numbered answer_number (JtjCall damp jac rows n out out') r → Numbered answer_number (JtjCall damp jac rows n out out'') s → (r ≡ s) × (out' ≡ out'')
+  export_jtj_unique damp p q =
       let same = jtj_unique damp jac rows n out out' out'' _ _ p.call q.call in
       (numbered p q same.0, same.1)
 
-  pub export-jtr-unique : (t : List Float) → Numbered answer_number (JtrCall jac t rows n out out') r → Numbered answer_number (JtrCall jac t rows n out out'') s → (r ≡ s) × (out' ≡ out'')
-  export-jtr-unique t p q =
+  pub export_jtr_unique : (t : List Float) → Numbered answer_number (JtrCall jac t rows n out out') r → Numbered answer_number (JtrCall jac t rows n out out'') s → (r ≡ s) × (out' ≡ out'')
+  export_jtr_unique t p q =
       let same = jtr_unique jac t rows n out out' out'' _ _ p.call q.call in
       (numbered p q same.0, same.1)
 
 -- each solver, whose column was p and is p' or p''
 module _ (p p' p'' : List ℕ) (r s : ℕ) where
   -- equal answers tell one column
-  column-same : {C D : Answer → Type 0} (h : Numbered answer_number (WithColumn C p p') r) (k : Numbered answer_number (WithColumn D p p'') s) → h.answer ≡ k.answer → (r ≡ s) × (p' ≡ p'')
-  column-same h k same = (numbered h k same, cc)
+  column_same : {C D : Answer → Type 0} (h : Numbered answer_number (WithColumn C p p') r) (k : Numbered answer_number (WithColumn D p p'') s) → h.answer ≡ k.answer → (r ≡ s) × (p' ≡ p'')
+  column_same h k same = (numbered h k same, cc)
 
-  pub export-cholesky-unique : (a b : List Float) (n : ℕ) (a' b' a'' b'' : List Float)
+  pub export_cholesky_unique : (a b : List Float) (n : ℕ) (a' b' a'' b'' : List Float)
       → Numbered answer_number (WithColumn (CholeskyCall a b n a' b') p p') r → Numbered answer_number (WithColumn (CholeskyCall a b n a'' b'') p p'') s
       → ((r ≡ s) × (p' ≡ p'')) × (a' ≡ a'') × (b' ≡ b'')
-  export-cholesky-unique a b n a' b' a'' b'' h k =
+  export_cholesky_unique a b n a' b' a'' b'' h k =
       let same = cholesky_unique a b n a' b' a'' b'' _ _ h.call.solve k.call.solve in
-      (column-same h k same.0, same.1, same.2)
+      (column_same h k same.0, same.1, same.2)
 
-  pub export-lu-unique : (a b : List Float) (n : ℕ) (a' b' a'' b'' : List Float)
+  pub export_lu_unique : (a b : List Float) (n : ℕ) (a' b' a'' b'' : List Float)
       → Numbered answer_number (WithColumn (LuCall a b n a' b') p p') r → Numbered answer_number (WithColumn (LuCall a b n a'' b'') p p'') s
       → ((r ≡ s) × (p' ≡ p'')) × (a' ≡ a'') × (b' ≡ b'')
-  export-lu-unique a b n a' b' a'' b'' h k =
+  export_lu_unique a b n a' b' a'' b'' h k =
       let same = lu_unique a b n a' b' a'' b'' _ _ h.call.solve k.call.solve in
-      (column-same h k same.0, same.1, same.2)
+      (column_same h k same.0, same.1, same.2)
 
-  pub export-normal-unique : (a b : List Float) (n : ℕ) (w b' w' b'' w'' : List Float)
+  pub export_normal_unique : (a b : List Float) (n : ℕ) (w b' w' b'' w'' : List Float)
       → Numbered answer_number (WithColumn (NormalCall a b n b' w w') p p') r → Numbered answer_number (WithColumn (NormalCall a b n b'' w w'') p p'') s
       → ((r ≡ s) × (p' ≡ p'')) × (b' ≡ b'') × (w' ≡ w'')
-  export-normal-unique a b n w b' w' b'' w'' h k =
+  export_normal_unique a b n w b' w' b'' w'' h k =
       let same = normal_unique a b n w b' w' b'' w'' _ _ h.call.solve k.call.solve in
-      (column-same h k same.0, same.1, same.2)
+      (column_same h k same.0, same.1, same.2)
 
-  pub export-invert-unique : (a : List Float) (n : ℕ) (o w o' w' o'' w'' : List Float)
+  pub export_invert_unique : (a : List Float) (n : ℕ) (o w o' w' o'' w'' : List Float)
       → Numbered answer_number (WithColumn (InvertCall a n o o' w w') p p') r → Numbered answer_number (WithColumn (InvertCall a n o o'' w w'') p p'') s
       → ((r ≡ s) × (p' ≡ p'')) × (o' ≡ o'') × (w' ≡ w'')
-  export-invert-unique a n o w o' w' o'' w'' h k =
+  export_invert_unique a n o w o' w' o'' w'' h k =
       let same = invert_unique a n o w o' w' o'' w'' _ _ h.call.solve k.call.solve in
-      (column-same h k same.0, same.1, same.2)
+      (column_same h k same.0, same.1, same.2)
 
-  pub export-least-unique : (a b : List Float) (m n : ℕ) (o w o' w' o'' w'' : List Float)
+  pub export_least_unique : (a b : List Float) (m n : ℕ) (o w o' w' o'' w'' : List Float)
       → Numbered answer_number (WithColumn (LeastCall a b m n o o' w w') p p') r → Numbered answer_number (WithColumn (LeastCall a b m n o o'' w w'') p p'') s
       → ((r ≡ s) × (p' ≡ p'')) × (o' ≡ o'') × (w' ≡ w'')
-  export-least-unique a b m n o w o' w' o'' w'' h k =
+  export_least_unique a b m n o w o' w' o'' w'' h k =
       let same = least_unique a b m n o w o' w' o'' w'' _ _ h.call.solve k.call.solve in
-      (column-same h k same.0, same.1, same.2)
+      (column_same h k same.0, same.1, same.2)
 
 pub export_qr_unique : (a : List Float) (m n : ℕ) (d b w d' b' w' d'' b'' w'' : List Float) (r s : ℕ)
     → Numbered answer_number (QrCall a m n d d' b b' w w') r → Numbered answer_number (QrCall a m n d d'' b b'' w w'') s
@@ -100,10 +100,10 @@ export_qr_unique a m n d b w d' b' w' d'' b'' w'' r s p q =
     (numbered p q same.0, same.1, same.2, same.3)
 
 module _ (task : Task) (theta target cs w cs' w' cs'' w'' : List Float) (p p' p'' : List ℕ) (e e' e'' : List Float) where
-  pub export-fit-unique : (r s : ℕ)
+  pub export_fit_unique : (r s : ℕ)
       → Numbered fitted_number (Reported (FitCall task theta target cs cs' w w') p p' e e') r
       → Numbered fitted_number (Reported (FitCall task theta target cs cs'' w w'') p p'' e e'') s → (r ≡ s) × (cs' ≡ cs'') × (w' ≡ w'') × (p' ≡ p'') × (e' ≡ e'')
-  export-fit-unique r s h k =
+  export_fit_unique r s h k =
       let same = fit_unique task theta target cs w cs' w' cs'' w'' _ _ h.call.fit k.call.fit in
       let answers = same.0 in
       (numbered h k answers, same.1, same.2, cc, cc)
@@ -115,11 +115,11 @@ coded_unique (By layout solver) rows n setup j theta target cs w cs' w' cs'' w''
 coded_unique Unknown rows n setup j theta target cs w cs' w' cs'' w'' r s p q = (cc, cc, cc)
 
 module _ (k : Coded) (rows n : ℕ) (setup : Setup) (j : ℕ) (theta target cs w cs' w' cs'' w'' : List Float) (p p' p'' : List ℕ) (v v' v'' : List Float) where
-  pub export-why-unique : (r s : ℕ)
+  pub export_why_unique : (r s : ℕ)
       → Numbered caused_number (Explained (WhyCoded k rows n setup j theta target cs cs' w w') p p' v v') r
       → Numbered caused_number (Explained (WhyCoded k rows n setup j theta target cs cs'' w w'') p p'' v v'') s
       → (r ≡ s) × (cs' ≡ cs'') × (w' ≡ w'') × (p' ≡ p'') × (v' ≡ v'')
-  export-why-unique r s h i =
+  export_why_unique r s h i =
       let same = coded_unique k rows n setup j theta target cs w cs' w' cs'' w'' _ _ h.call.why i.call.why in
       let answers = same.0 in
       (numbered h i answers, same.1, same.2, cc, cc)

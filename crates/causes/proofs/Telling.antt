@@ -31,15 +31,15 @@ module _ (why : ℕ → Cause) (was : List ℕ) where
   unfolding cause_lines
   told_none = record { long = refl; place = omega arith; lines = record { place = omega arith; bytes = put_none 0 was } }
 
-  pub told-next : {j next next' : ℕ} {c : Cause} {out out' : List ℕ} → c ≡ why j → length out' ≡ length out
+  pub told_next : {j next next' : ℕ} {c : Cause} {out out' : List ℕ} → c ≡ why j → length out' ≡ length out
       → Told j out next → Written next (cause_line c) out out' next' → Told (j + 1) out' next'
   unfolding cause_lines
-  told-next {c = c} e len f g =
+  told_next {c = c} e len f g =
       record {
         long = len ∙ f.long;
         place = omega (arith, f.place, g.place, length_cause c);
         lines = rw (add-one, ← e) (written_then (omega arith) f.lines g);
       }
 
-  pub told-end : {j n next : ℕ} {out : List ℕ} → j ≤ n → n ≤ j → Told j out next → Written 0 (cause_lines why n) was out next
-  told-end {j} {n} h k f = let e : j ≡ n = omega arith in rw e at f.lines
+  pub told_end : {j n next : ℕ} {out : List ℕ} → j ≤ n → n ≤ j → Told j out next → Written 0 (cause_lines why n) was out next
+  told_end {j} {n} h k f = let e : j ≡ n = omega arith in rw e at f.lines

@@ -11,18 +11,18 @@ use Rattle.reader.specs.declared.inner.header.Head.TheVariants.{Good, Wrong}
 use Rattle.writer.specs.Answer.{refusal_line}
 use Rattle.exchange.specs.Limits.{most_cols, most_rows}
 use Rattle.exchange.specs.Exchange.{Accepted, answer_lines}
-use Rattle.exchange.specs.Laws.{by-wrong, by-good, then_accepted}
+use Rattle.exchange.specs.Laws.{by_wrong, by_good, then_accepted}
 use Rattle.causes.specs.Exchange.{why_before, why_checked, cause_lines_asked, causes_of}
 
 -- a malformed header
 pub causes_wrong : (s : List ℕ) → head_of s ≡ Wrong → causes_of s ≡ refusal_line Malformed
 unfolding causes_of
-causes_wrong = by-wrong why_before cause_lines_asked
+causes_wrong = by_wrong why_before cause_lines_asked
 
 -- a good one
 pub causes_good : (s : List ℕ) (task : Task) (a : Answer) → head_of s ≡ Good task → why_checked s task ≡ a → causes_of s ≡ answer_lines cause_lines_asked s task a
 unfolding causes_of why_checked
-causes_good = by-good why_before cause_lines_asked
+causes_good = by_good why_before cause_lines_asked
 
 -- a task that is not refused before its rows is within the limits
 pub before_limits : (task : Task) → why_before task ≡ Done → Limited most_cols most_rows task

@@ -33,9 +33,9 @@ lines_alike why why' h zero = refl
 lines_alike why why' h (suc n) = ap₂ ◌++◌ (lines_alike why why' h n) (ap cause_line (h n))
 
 module _ (s t : List ℕ) (task : Task) (l m : Layout) (same : SameNumbers s t (laid l task) (laid m task)) where
-  pub asked-alike : (j : ℕ) → cause_asked s (laid l task) j ≡ cause_asked t (laid m task) j
+  pub asked_alike : (j : ℕ) → cause_asked s (laid l task) j ≡ cause_asked t (laid m task) j
   unfolding problem
-  asked-alike j =
+  asked_alike j =
       let limit = task.setup.max_iter in
       asked_entries s (laid l task) j
       ∙ cause_entries (laid l task) (matrix_asked s (laid l task)) (matrix_asked t (laid m task)) (at (target_asked s (laid l task))) same.features limit j
@@ -43,7 +43,7 @@ module _ (s t : List ℕ) (task : Task) (l m : Layout) (same : SameNumbers s t (
       ∙ sym (asked_entries t (laid m task) j)
 
   -- byte for byte, whichever way each stores theta
-  pub causes-answered-alike : head_of s ≡ Good (laid l task) → head_of t ≡ Good (laid m task) → why_checked s (laid l task) ≡ Done → why_checked t (laid m task) ≡ Done → causes_of s ≡ causes_of t
+  pub causes_answered_alike : head_of s ≡ Good (laid l task) → head_of t ≡ Good (laid m task) → why_checked s (laid l task) ≡ Done → why_checked t (laid m task) ≡ Done → causes_of s ≡ causes_of t
   unfolding answer_lines
-  causes-answered-alike e f ok fine =
-      causes_good s (laid l task) Done e ok ∙ lines_alike _ _ asked-alike task.cols ∙ sym (causes_good t (laid m task) Done f fine)
+  causes_answered_alike e f ok fine =
+      causes_good s (laid l task) Done e ok ∙ lines_alike _ _ asked_alike task.cols ∙ sym (causes_good t (laid m task) Done f fine)

@@ -12,7 +12,7 @@ use Rattle.exchange.specs.Limits.{most_cols, most_rows}
 use Rattle.exchange.specs.Exchange.{then_rows, theta_asked, target_asked}
 use Rattle.why.specs.Sizes.{above_zero}
 use Rattle.why.specs.Truth.{Truly}
-use Rattle.why.specs.Promises.{why-true, why-only}
+use Rattle.why.specs.Promises.{why_true, why_only}
 use Rattle.why.specs.declared.Cause.{Cause}
 use Rattle.causes.specs.Exchange.{why_before, why_checked, cause_asked}
 
@@ -29,9 +29,9 @@ module _ (s : List ℕ) (task : Task) (ok : why_checked s task ≡ Done) (j : �
       above_zero task.setup (both_done (limits most_cols most_rows task) _ before).1
 
   -- the cause on its line is true
-  pub asked-true : Truly (problem_asked s task) task.setup.max_iter j (cause_asked s task j)
-  asked-true = why-true task (matrix_of task (theta_asked s task)) (at (target_asked s task)) high j below
+  pub asked_true : Truly (problem_asked s task) task.setup.max_iter j (cause_asked s task j)
+  asked_true = why_true task (matrix_of task (theta_asked s task)) (at (target_asked s task)) high j below
 
   -- and no other is
-  pub asked-only : (c : Cause) → Truly (problem_asked s task) task.setup.max_iter j c → c ≡ cause_asked s task j
-  asked-only = why-only task (matrix_of task (theta_asked s task)) (at (target_asked s task)) high j below
+  pub asked_only : (c : Cause) → Truly (problem_asked s task) task.setup.max_iter j c → c ≡ cause_asked s task j
+  asked_only = why_only task (matrix_of task (theta_asked s task)) (at (target_asked s task)) high j below

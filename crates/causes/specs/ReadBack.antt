@@ -16,7 +16,7 @@ use Rattle.causes.specs.Lines.{cause_line, cause_bytes, cause_lines}
 use Rattle.causes.specs.LineLaws.{Within, length_causes, line_at}
 use Rattle.causes.specs.Exchange.{why_checked, cause_asked, causes_of}
 use Rattle.causes.specs.Cases.{causes_good}
-use Rattle.causes.specs.InDigits.{code_within, refit-within, value-within}
+use Rattle.causes.specs.InDigits.{code_within, refit_within, value_within}
 
 -- what the digits of an answer from a on say of a cause
 pub record Says (text : List ℕ) (a : ℕ) (c : Cause) : Type 0 where
@@ -48,4 +48,4 @@ unfolding answer_lines
 causes_read_back s task e ok j below =
     let why = cause_asked s task in
     rw (causes_good s task Done e ok)
-    (line_read_back (cause_lines why task.cols) (cause_lines why j) _ _ (line_at why j _ below) (length_causes why j) (refit-within s task ok j below) (value-within s task ok j below))
+    (line_read_back (cause_lines why task.cols) (cause_lines why j) _ _ (line_at why j _ below) (length_causes why j) (refit_within s task ok j below) (value_within s task ok j below))

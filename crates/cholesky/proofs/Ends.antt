@@ -10,10 +10,10 @@ use Rattle.refusal.specs.declared.Solved.TheVariants.{Done, Refused}
 use Rattle.cholesky.specs.Cholesky.{chol_factor, chol_forward, chol_back, chol_end, cholesky}
 
 module _ (n : ℕ) (a b : List Float) where
-  pub cholesky-stops : (r : Solved) (col : ℕ) (a' : List Float) → told r a' ≡ chol_factor n a → r ≡ Refused col → told r (a', b) ≡ cholesky n a b
+  pub cholesky_stops : (r : Solved) (col : ℕ) (a' : List Float) → told r a' ≡ chol_factor n a → r ≡ Refused col → told r (a', b) ≡ cholesky n a b
   unfolding cholesky chol_end
-  cholesky-stops r col a' t e = rw (e, ← rw e at t)
+  cholesky_stops r col a' t e = rw (e, ← rw e at t)
 
-  pub cholesky-goes : (r : Solved) (a' x y : List Float) → told r a' ≡ chol_factor n a → r ≡ Done → x ≡ chol_forward n a' b → y ≡ chol_back n a' x → going (a', y) ≡ cholesky n a b
+  pub cholesky_goes : (r : Solved) (a' x y : List Float) → told r a' ≡ chol_factor n a → r ≡ Done → x ≡ chol_forward n a' b → y ≡ chol_back n a' x → going (a', y) ≡ cholesky n a b
   unfolding cholesky chol_end
-  cholesky-goes r a' x y t e f g = rw (g, f, ← rw e at t)
+  cholesky_goes r a' x y t e f g = rw (g, f, ← rw e at t)

@@ -2,7 +2,7 @@
 use Rattle.std.specs.Prelude.{ℕ, ◌+◌, ◌*◌, cond, List, set, Float}
 use Rattle.std.specs.Float.Ieee.{le}
 use Rattle.steps.specs.Num.{times, over, one, 1e-14, at, cell}
-use Rattle.steps.specs.Loops.{loop, down-from, Way, going, stopped, way}
+use Rattle.steps.specs.Loops.{loop, down_from, Way, going, stopped, way}
 use Rattle.steps.specs.Sums.{less_sum}
 use Rattle.float64.specs.Root.{root_of, abs_of, greater_of}
 
@@ -45,7 +45,7 @@ chol_forward n l b = loop 0 n (λ i x. set x i (forward_at n l i x)) b
 
 -- then back substitution
 unfoldable pub chol_back : ℕ → List Float → List Float → List Float
-chol_back n l b = down-from n (λ i x. set x i (back_at n l i x)) b
+chol_back n l b = down_from n (λ i x. set x i (back_at n l i x)) b
 
 -- both, with what the factor came to: a refusal leaves b unchanged
 unfoldable pub chol_end : ℕ → List Float → Way (List Float) → Way (List Float × List Float)

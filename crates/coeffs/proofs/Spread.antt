@@ -11,7 +11,7 @@ use lib.Seq.{get_or-set_same, get_or-set_other}
 use lib.Ieee.{Float, nan}
 use Rattle.steps.specs.Num.{at}
 use Rattle.steps.specs.Cond.{either}
-use Rattle.steps.specs.Table.{tab, is-tab}
+use Rattle.steps.specs.Table.{tab, is_tab}
 use Rattle.support.specs.Word.{word, with_term}
 use Rattle.support.specs.SupportLaws.{word_take, word_skip}
 
@@ -35,7 +35,7 @@ spread_more j g d d' x pos fits s e = record {
 }
 
 pub spread_end : (g : ℕ → Float) (d d' : List Float) → Spread 0 g d d' → d' ≡ tab (length d) g
-spread_end g d d' s = is-tab (length d) g d' nan s.long (λ i h. s.done i (omega arith) h)
+spread_end g d d' s = is_tab (length d) g d' nan s.long (λ i h. s.done i (omega arith) h)
 
 -- a look at one more term
 pub word_more : (f : ℕ → Bool) (j w r : ℕ) → j < 64 → w ≡ word f j → r ≡ cond (f j) (with_term w j) w → r ≡ word f (j + 1)

@@ -1,7 +1,7 @@
 -- What `qr` answers and leaves. Assumes nothing.
 use Rattle.std.specs.Prelude.{◌≡◌, not, List, ℕ, ◌*◌, ltb, eqb, length, Float}
 use Rattle.steps.specs.Space.{cleared}
-use Rattle.refusal.specs.Answers.{refuse_if, if-done}
+use Rattle.refusal.specs.Answers.{refuse_if, if_done}
 use Rattle.refusal.specs.declared.Answer.{Answer}
 use Rattle.refusal.specs.declared.Answer.TheVariants.{Done}
 use Rattle.refusal.specs.declared.Refusal.TheVariants.{ManyColumns, ManyRows, MatrixLength, OutputLength, FewRows, WorkspaceShort}
@@ -22,6 +22,6 @@ qr_sizes m n matrix «data» betas space =
 -- `qr` of a: the answer, the packed factor, the betas, and m numbers of the workspace cleared
 pub record QrCall (a : List Float) (m n : ℕ) (d d' b b' w w' : List Float) (r : Answer) : Type 0 where
   pub answer : r ≡ qr_sizes m n (length a) (length d) (length b) (length w)
-  pub factor : d' ≡ if-done r (after m n a n) d
-  pub scales : b' ≡ if-done r (betas m n a) b
-  pub space : w' ≡ if-done r (cleared m w) w
+  pub factor : d' ≡ if_done r (after m n a n) d
+  pub scales : b' ≡ if_done r (betas m n a) b
+  pub space : w' ≡ if_done r (cleared m w) w

@@ -49,13 +49,13 @@ module _ (s t : List ℕ) (same : (i : ℕ) → i < header_frame → get_or s i 
   number_same a zero h = refl
   number_same a (suc n) h = ap₂ (λ (x y : ℕ). x * 16 + value y) (number_same a n (omega arith)) (same (a + n) (omega arith))
 
-  hex-same : all_hex s 0 header_digits ≡ all_hex t 0 header_digits
+  hex_same : all_hex s 0 header_digits ≡ all_hex t 0 header_digits
   unfolding all_hex
-  hex-same = all_same _ _ header_digits (λ i l. ap (λ (y : ℕ). ltb (value y) 16) (same (0 + i) (omega arith)))
+  hex_same = all_same _ _ header_digits (λ i l. ap (λ (y : ℕ). ltb (value y) 16) (same (0 + i) (omega arith)))
 
-  fields-same : (layout : Layout) (solver : Solver) → header s layout solver ≡ header t layout solver
+  fields_same : (layout : Layout) (solver : Solver) → header s layout solver ≡ header t layout solver
   unfolding header
-  fields-same layout solver =
+  fields_same layout solver =
       rw (
         number_same 2 4 (omega arith),
         number_same 6 2 (omega arith),
@@ -64,14 +64,14 @@ module _ (s t : List ℕ) (same : (i : ℕ) → i < header_frame → get_or s i 
         number_same 28 16 (omega arith),
       )
 
-  coded-same : (k : Coded) → head_by s k ≡ head_by t k
-  coded-same (By layout solver) = ap Good (fields-same layout solver)
-  coded-same Unknown = refl
+  coded_same : (k : Coded) → head_by s k ≡ head_by t k
+  coded_same (By layout solver) = ap Good (fields_same layout solver)
+  coded_same Unknown = refl
 
-  head-same : header_frame ≤ length s → header_frame ≤ length t → head_of s ≡ head_of t
+  head_same : header_frame ≤ length s → header_frame ≤ length t → head_of s ≡ head_of t
   unfolding head_of header_formed
-  head-same h k =
-      rw (le-leb _ _ h, le-leb _ _ k, hex-same, same header_digits (omega arith), number_same 0 2 (omega arith), coded-same (by_code (number_at t 0 2)))
+  head_same h k =
+      rw (le-leb _ _ h, le-leb _ _ k, hex_same, same header_digits (omega arith), number_same 0 2 (omega arith), coded_same (by_code (number_at t 0 2)))
 
 -- within the limits the frames end before the room does, however theta is stored
 frames_end : (layout : Layout) (rows cols : ℕ) → rows ≤ most_rows → cols ≤ most_cols → frame_at (frame_digits layout rows cols) (frame_count layout rows cols) < input_room
@@ -92,9 +92,9 @@ long_formed s l task k =
 -- a program that passes only tasks within the limits, and writes any lines of them
 module _ (before : Task → Answer) (lines : List ℕ → Task → List ℕ) (passed : (task : Task) → before task ≡ Done → Limited most_cols most_rows task) where
   -- so what refuses a longer input is by its task alone
-  long-checked : (s : List ℕ) → input_room ≤ length s → (task : Task) → then_rows (before task) s task ≡ and_then (before task) (Refused Malformed)
+  long_checked : (s : List ℕ) → input_room ≤ length s → (task : Task) → then_rows (before task) s task ≡ and_then (before task) (Refused Malformed)
   unfolding then_rows
-  long-checked s l task = refused_after (before task) _ Malformed (λ e. rw (long_formed s l task (passed task e)) refl)
+  long_checked s l task = refused_after (before task) _ Malformed (λ e. rw (long_formed s l task (passed task e)) refl)
 
   -- a refusal's line does not depend on the input
   same_lines : (s t : List ℕ) (task : Task) (a : Answer) → answer_lines lines s task (and_then a (Refused Malformed)) ≡ answer_lines lines t task (and_then a (Refused Malformed))
@@ -103,19 +103,19 @@ module _ (before : Task → Answer) (lines : List ℕ → Task → List ℕ) (pa
   same_lines s t task (Refused w) = refl
 
   -- so two longer inputs of one header are answered alike
-  long-answer : (s t : List ℕ) (d : Head) → input_room ≤ length s → input_room ≤ length t → answer_to before lines s d ≡ answer_to before lines t d
+  long_answer : (s t : List ℕ) (d : Head) → input_room ≤ length s → input_room ≤ length t → answer_to before lines s d ≡ answer_to before lines t d
   unfolding answer_to
-  long-answer s t (Good task) l k = rw (long-checked s l task, long-checked t k task) (same_lines s t task (before task))
-  long-answer s t Wrong l k = refl
+  long_answer s t (Good task) l k = rw (long_checked s l task, long_checked t k task) (same_lines s t task (before task))
+  long_answer s t Wrong l k = refl
 
-  long-cut : (s : List ℕ) → input_room ≤ length s → answer_by before lines (take input_room s) ≡ answer_by before lines s
+  long_cut : (s : List ℕ) → input_room ≤ length s → answer_by before lines (take input_room s) ≡ answer_by before lines s
   unfolding answer_by
-  long-cut s l =
+  long_cut s l =
       let t = take input_room s in
       let len : length t ≡ input_room = length-take-le input_room s l in
-      let head = head-same t s (λ i k. get_or-take input_room s i 0 (omega arith)) (omega (arith, len)) (omega arith) in
-      ap (answer_to before lines t) head ∙ long-answer t s (head_of s) (omega (arith, len)) l
+      let head = head_same t s (λ i k. get_or-take input_room s i 0 (omega arith)) (omega (arith, len)) (omega arith) in
+      ap (answer_to before lines t) head ∙ long_answer t s (head_of s) (omega (arith, len)) l
 
   -- the bytes beyond the room change no answer
-  pub cut-alike-by : (s : List ℕ) → answer_by before lines (take input_room s) ≡ answer_by before lines s
-  cut-alike-by s = ⊎_elim (λ l. ap (answer_by before lines) (take_all input_room s (omega arith))) (long-cut s) (lt_or_ge (length s) input_room)
+  pub cut_alike_by : (s : List ℕ) → answer_by before lines (take input_room s) ≡ answer_by before lines s
+  cut_alike_by s = ⊎_elim (λ l. ap (answer_by before lines) (take_all input_room s (omega arith))) (long_cut s) (lt_or_ge (length s) input_room)

@@ -17,14 +17,14 @@ use Rattle.exchange.specs.Exchange.{frames_fine, then_rows, Accepted, answer_lin
 
 module _ (before : Task → Answer) (lines : List ℕ → Task → List ℕ) where
   -- a malformed header
-  pub by-wrong : (s : List ℕ) → head_of s ≡ Wrong → answer_by before lines s ≡ refusal_line Malformed
+  pub by_wrong : (s : List ℕ) → head_of s ≡ Wrong → answer_by before lines s ≡ refusal_line Malformed
   unfolding answer_by answer_to
-  by-wrong s e = rw e
+  by_wrong s e = rw e
 
   -- a good one
-  pub by-good : (s : List ℕ) (task : Task) (a : Answer) → head_of s ≡ Good task → then_rows (before task) s task ≡ a → answer_by before lines s ≡ answer_lines lines s task a
+  pub by_good : (s : List ℕ) (task : Task) (a : Answer) → head_of s ≡ Good task → then_rows (before task) s task ≡ a → answer_by before lines s ≡ answer_lines lines s task a
   unfolding answer_by answer_to
-  by-good s task a e f = rw (e, f)
+  by_good s task a e f = rw (e, f)
 
 -- an input that nothing refuses is accepted, where what passes first is within the limits
 pub then_accepted : {first : Answer} (s : List ℕ) (task : Task) → (first ≡ Done → Limited most_cols most_rows task) → then_rows first s task ≡ Done → Accepted s task

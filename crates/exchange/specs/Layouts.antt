@@ -4,14 +4,14 @@ use Rattle.std.proofs.Math.Path.{sym, ap}
 use Rattle.std.proofs.Common.{◌∙◌}
 use mathlib.Core.List.{List}
 use Rattle.steps.specs.Num.{at}
-use Rattle.steps.specs.Table.{tab-cong}
+use Rattle.steps.specs.Table.{tab_cong}
 use Rattle.places.specs.declared.Layout.{Layout}
 use Rattle.reader.specs.Numbers.{target}
 use Rattle.rule.specs.declared.Task.{Task}
 use Rattle.rule.specs.Rule.{Fit}
 use Rattle.rule.specs.Tasks.{laid}
 use Rattle.rule.specs.Fits.{problem, fit_by, fit_of}
-use Rattle.rule.specs.SameFit.{fit-entries}
+use Rattle.rule.specs.SameFit.{fit_entries}
 use Rattle.rule.specs.Layouts.{fit_stored}
 use Rattle.exchange.specs.Exchange.{matrix_asked, theta_asked, target_asked}
 
@@ -33,13 +33,13 @@ pub record SameNumbers (s t : List ℕ) (task task' : Task) : Type 0 where
 module _ (s t : List ℕ) (task : Task) (l m : Layout) (same : SameNumbers s t (laid l task) (laid m task)) where
   pub targets_alike : target_asked s (laid l task) ≡ target_asked t (laid m task)
   unfolding target_asked
-  targets_alike = tab-cong task.rows _ _ same.targets
+  targets_alike = tab_cong task.rows _ _ same.targets
 
   -- so the way in which theta is stored changes no fit
   pub inputs_alike : fit_read s (laid l task) ≡ fit_read t (laid m task)
   unfolding fit_by problem
   inputs_alike =
       read_entries s (laid l task)
-      ∙ fit-entries (laid l task) (matrix_asked s (laid l task)) (matrix_asked t (laid m task)) (at (target_asked s (laid l task))) same.features
+      ∙ fit_entries (laid l task) (matrix_asked s (laid l task)) (matrix_asked t (laid m task)) (at (target_asked s (laid l task))) same.features
       ∙ ap (λ (x : List Float). fit_by (laid m task) (matrix_asked t (laid m task)) (at x)) targets_alike
       ∙ sym (read_entries t (laid m task))

@@ -5,7 +5,7 @@ use Rattle.std.specs.Float.{binary64}
 use Rattle.std.specs.Float.Ieee.{fits}
 use Rattle.std.specs.Float.Ieee.Bits.{of_bits-fits}
 use Rattle.steps.specs.Num.{at}
-use Rattle.steps.specs.Table.{length-tab}
+use Rattle.steps.specs.Table.{length_tab}
 use Rattle.places.specs.declared.Layout.{Layout}
 use Rattle.places.specs.declared.Layout.TheVariants.{ByRows, ByColumns}
 use Rattle.places.specs.Stored.{length_laid_out}
@@ -39,7 +39,7 @@ asked_sizes {s} {task} ok =
     record {
       limited = record { few_cols = omega (arith, l.few_cols); few_rows = omega (arith, l.few_rows); few_rounds = l.few_rounds };
       theta_long = length_laid_out task.layout task.rows task.cols _;
-      target_long = length-tab task.rows _;
+      target_long = length_tab task.rows _;
     }
 
 -- each number of the target is a binary64, since its digits are read as one
@@ -56,11 +56,11 @@ first_part : (n : ℕ) (l t : List Float) → take n l ≡ t → take (n - 0) l 
 first_part n l t e = let z : n - 0 ≡ n = omega arith in rw z e
 
 module _ {s : List ℕ} {task : Task} {theta target : List Float} (has : HasRead s task theta target) where
-  pub theta-lent : take (task.rows * task.cols - 0) theta ≡ theta_asked s task
-  theta-lent = first_part (task.rows * task.cols) theta _ has.theta_read
+  pub theta_lent : take (task.rows * task.cols - 0) theta ≡ theta_asked s task
+  theta_lent = first_part (task.rows * task.cols) theta _ has.theta_read
 
-  pub target-lent : take (task.rows - 0) target ≡ target_asked s task
-  target-lent = first_part task.rows target _ has.target_read
+  pub target_lent : take (task.rows - 0) target ≡ target_asked s task
+  target_lent = first_part task.rows target _ has.target_read
 
-  pub lent-sizes : Accepted s task → Sized task (take (task.rows * task.cols - 0) theta) (take (task.rows - 0) target)
-  lent-sizes ok = rw (theta-lent, target-lent) (asked_sizes ok)
+  pub lent_sizes : Accepted s task → Sized task (take (task.rows * task.cols - 0) theta) (take (task.rows - 0) target)
+  lent_sizes ok = rw (theta_lent, target_lent) (asked_sizes ok)

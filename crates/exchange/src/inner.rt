@@ -15,7 +15,7 @@ pub const COLS: usize = 16;
 
 pub const ROWS: usize = 128;
 
-// One byte more than the longest valid input has, theta by rows: what a longer input has beyond it changes no answer (`cut-alike-by`).
+// One byte more than the longest valid input has, theta by rows: what a longer input has beyond it changes no answer (`cut_alike_by`).
 pub const INPUT: usize = FRAME + ROWS * (16 * (1 + COLS) + 1) + 1;
 
 // The largest theta, and the largest workspace: that of the largest task by least squares.

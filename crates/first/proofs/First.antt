@@ -53,9 +53,9 @@ module _ (task : Task) (theta target : List Float) (j : ℕ) where
   unfolding start problem
   no_rows h q = at_once (rw (eq-eqb task.rows 0 h)) q
 
-  pub no-cols : {x : List Float} → task.rows ≢ 0 → task.cols ≡ 0 → x ≡ zeros task.cols → CameTo P limit j NoData 0 Never x
+  pub no_cols : {x : List Float} → task.rows ≢ 0 → task.cols ≡ 0 → x ≡ zeros task.cols → CameTo P limit j NoData 0 Never x
   unfolding start problem
-  no-cols r h q = at_once (rw (ne_eqb task.rows 0 r, eq-eqb task.cols 0 h)) q
+  no_cols r h q = at_once (rw (ne_eqb task.rows 0 r, eq-eqb task.cols 0 h)) q
 
   -- the solve over all columns, whose answer was a, and which left y
   module _ (some-rows : task.rows ≢ 0) (some-cols : task.cols ≢ 0) (small : task.cols ≤ 64) (w : ℕ) (all : w ≡ full task.cols)
@@ -69,9 +69,9 @@ module _ (task : Task) (theta target : List Float) (j : ℕ) where
     whole = rw all (solves_full task.solver task.setup.lambda (at target) task.rows task.cols (matrix_of task theta) small)
 
     -- refused: among all columns a column is its own term
-    pub first-refused : (t : Term) (x : List Float) → a ≡ Refused t → length y ≡ task.cols → x ≡ cleared task.cols y → CameTo P limit j (FirstRefused t) 0 Never x
+    pub first_refused : (t : Term) (x : List Float) → a ≡ Refused t → length y ≡ task.cols → x ≡ cleared task.cols y → CameTo P limit j (FirstRefused t) 0 Never x
     unfolding first problem
-    first-refused t x e h i =
+    first_refused t x e h i =
         let no = refused_placed a task.cols w t _ y e solve in
         let at-column : P.whole ≡ refused no.column = sym whole ∙ no.refuses in
         let below : no.column < task.cols = subst (Within task.cols) at-column (columned task _ _).first_solve in

@@ -46,20 +46,20 @@ module _ (n s h q : ℕ) (e : n * 2 ^ 52 ≡ s * 2 ^ h * 2 ^ h) (S : 2 ^ 52 ≤ 
   C : 0 < c
   C = pow_pos (h + 484)
 
-  m-low : 2 ^ 52 ≤ m
-  m-low = half_low s q S W
+  m_low : 2 ^ 52 ≤ m
+  m_low = half_low s q S W
 
-  m-high : m < 2 ^ 53
-  m-high = half_high s q S' W
+  m_high : m < 2 ^ 53
+  m_high = half_high s q S' W
 
   mid : (k : ℕ) → 2 ^ 52 ≤ k → k ≤ 2 ^ 53 → (x : ℕ) → x ≡ (485 + h) * 2 ^ 52 + k → units_of x ≡ 2 * k * c
   mid k l g x z = units_normal (485 + h) k x l g z ∙ ap (λ (y : ℕ). k * y) (twice h) ∙ sym (mul_assoc k 2 c) ∙ ap (λ (y : ℕ). y * c) (mul_comm k 2)
 
   at_b : units_of b ≡ 2 * m * c
-  at_b = mid m m-low (omega (arith, m-high)) b refl
+  at_b = mid m m_low (omega (arith, m_high)) b refl
 
   at_next : units_of (b + 1) ≡ 2 * (m + 1) * c
-  at_next = mid (m + 1) (omega (arith, m-low)) (omega (arith, m-high)) (b + 1) (omega arith)
+  at_next = mid (m + 1) (omega (arith, m_low)) (omega (arith, m_high)) (b + 1) (omega arith)
 
   high_sum : units_of b + units_of (b + 1) ≡ (4 * m + 2) * c
   high_sum =
@@ -77,7 +77,7 @@ module _ (n s h q : ℕ) (e : n * 2 ^ 52 ≡ s * 2 ^ h * 2 ^ h) (S : 2 ^ 52 ≤ 
         λ v. absurd (omega arith),
       )
   at_last (inr z) =
-      let y : units_of (b - 1) ≡ 2 * (m - 1) * c = mid (m - 1) (omega arith) (omega (arith, m-high)) (b - 1) (omega arith) in
+      let y : units_of (b - 1) ≡ 2 * (m - 1) * c = mid (m - 1) (omega arith) (omega (arith, m_high)) (b - 1) (omega arith) in
       let w : 2 * (m - 1) + 2 * m ≡ 4 * m - 2 = omega arith in (
         4 * m - 2,
         ap (λ (x : ℕ). x + units_of b) y ∙ ap (λ (x : ℕ). 2 * (m - 1) * c + x) at_b ∙ sym (add-mul (2 * (m - 1)) (2 * m) c) ∙ ap (λ (x : ℕ). x * c) w,
@@ -85,12 +85,12 @@ module _ (n s h q : ℕ) (e : n * 2 ^ 52 ≡ s * 2 ^ h * 2 ^ h) (S : 2 ^ 52 ≤ 
         λ v. odd_half q (q % 2) refl (omega arith) v,
       )
 
-  pub nearest-at : Nearest n b
-  nearest-at =
-      let a = at_last (swap (eq-or-lt_of_le m-low)) in
+  pub nearest_at : Nearest n b
+  nearest_at =
+      let a = at_last (swap (eq-or-lt_of_le m_low)) in
       let k : n * 2 ^ 1074 ≡ s * 2 ^ 54 * (c * c) = scaled n s h e in
       record {
-        some = omega (arith, m-low);
+        some = omega (arith, m_low);
         low = rw (k, a.1) (scale_lt a.0 (s * 2 ^ 54) c C (lower (s * 2 ^ 54) q a.0 W.lo (λ v. no_root s q (a.3 v)) a.2));
         high = rw (k, high_sum) (scale_gt (4 * m + 2) (s * 2 ^ 54) c C (upper (s * 2 ^ 54) q (4 * m + 2) W.hi (omega arith)));
       }

@@ -6,9 +6,9 @@ use lib.Ieee.Digits.{size-lt, size-le, size_reaches}
 use Rattle.float64.specs.Parts.{WholePart, Widened}
 use Rattle.float64.specs.Root.{isqrt, nearest_root}
 use Rattle.float64.specs.Rule.{units_of, Nearest}
-use Rattle.float64.proofs.Between.{nearest-at}
+use Rattle.float64.proofs.Between.{nearest_at}
 use Rattle.float64.proofs.Fields.{halved, wide, units_low, widened_high}
-use Rattle.float64.proofs.Pattern.{root-at, root-small}
+use Rattle.float64.proofs.Pattern.{root_at, root_small}
 use Rattle.float64.proofs.Square.{isqrt_whole}
 use Rattle.float64.proofs.Tests.{below_inf}
 
@@ -56,7 +56,7 @@ nearest_form n (g, e, W) =
     let k' : n * 2 ^ 52 ≡ s * 2 ^ h * 2 ^ h = sym W.same ∙ sym (halved g e) in
     let H : h ≤ 1048 = omega (arith, W.most) in
     let b = (485 + h) * 2 ^ 52 + (q + 1) / 2 in
-    let r : of_bits binary64 b ≡ nearest_root n = root-at n s h q k' w.0 w.1 H Q in
-    let small : b < 0x7ff0_0000_0000_0000 = root-small n s h q k' w.0 w.1 H Q in
+    let r : of_bits binary64 b ≡ nearest_root n = root_at n s h q k' w.0 w.1 H Q in
+    let small : b < 0x7ff0_0000_0000_0000 = root_small n s h q k' w.0 w.1 H Q in
     let t : to_bits binary64 (nearest_root n) ≡ b = ap (to_bits binary64) (sym r) ∙ to_bits-of_bits binary64 b (omega arith) (subst (λ (y : Bool). T (not y)) (nan_bits_is binary64 b) (below_inf b small)) in
-    subst (λ (y : ℕ). Nearest n y) (sym t) (nearest-at n s h q k' w.0 w.1 Q)
+    subst (λ (y : ℕ). Nearest n y) (sym t) (nearest_at n s h q k' w.0 w.1 Q)

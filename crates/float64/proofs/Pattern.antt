@@ -28,14 +28,14 @@ module _ (n s h q : ℕ) (e : n * 2 ^ 52 ≡ s * 2 ^ h * 2 ^ h) (S : 2 ^ 52 ≤ 
   m = (q + 1) / 2
 
   -- the whole part w of the root lies between q * c and (q + 1) * c
-  w-whole : WholePart (s * 2 ^ 54 * (c * c)) w
-  w-whole = subst (λ (x : ℕ). WholePart x w) (scaled n s h e) (isqrt_whole 1586 a (in_reach n s h e (omega arith) H))
+  w_whole : WholePart (s * 2 ^ 54 * (c * c)) w
+  w_whole = subst (λ (x : ℕ). WholePart x w) (scaled n s h e) (isqrt_whole 1586 a (in_reach n s h e (omega arith) H))
 
   lo : q * c ≤ w
-  lo = whole_scale_lo (s * 2 ^ 54) c q w W w-whole
+  lo = whole_scale_lo (s * 2 ^ 54) c q w W w_whole
 
   hi : w < (q + 1) * c
-  hi = whole_scale_hi (s * 2 ^ 54) c q w (pow_pos (h + 484)) W w-whole
+  hi = whole_scale_hi (s * 2 ^ 54) c q w (pow_pos (h + 484)) W w_whole
 
   -- c has more digits than q
   more : 2 * q + 1 ≤ c
@@ -45,7 +45,7 @@ module _ (n s h q : ℕ) (e : n * 2 ^ 52 ≡ s * 2 ^ h * 2 ^ h) (S : 2 ^ 52 ≤ 
   both : (2 * w < 2 * (m * 2 ^ (485 + h)) + 2 ^ (485 + h)) × (2 * (m * 2 ^ (485 + h)) < 2 * w + 2 ^ (485 + h))
   both =
       let t : m * 2 ^ (485 + h) ≡ 2 * (m * c) = ap (λ (x : ℕ). m * x) (twice h) ∙ mul_left_comm m 2 c in
-      let z = sides q m c w (m * c) (q * c) ((q + 1) * c) refl lo hi (λ o. above s c q w more o W w-whole)
+      let z = sides q m c w (m * c) (q * c) ((q + 1) * c) refl lo hi (λ o. above s c q w more o W w_whole)
       (omega (arith, add-mul q 1 c))
       (λ v. sym (mul_assoc 2 m c) ∙ ap (λ (x : ℕ). x * c) v)
       (λ v. sym (mul_assoc 2 m c) ∙ ap (λ (x : ℕ). x * c) v) in
@@ -72,11 +72,11 @@ module _ (n s h q : ℕ) (e : n * 2 ^ 52 ≡ s * 2 ^ h * 2 ^ h) (S : 2 ^ 52 ≤ 
   unfolding nearest_root
   rounded = round_at w m (485 + h) digits both.0 both.1
 
-  pub root-at : of_bits binary64 ((485 + h) * 2 ^ 52 + m) ≡ nearest_root n
-  root-at = read_back (nearest_root n) m (485 + h) (nearest_fits n)
+  pub root_at : of_bits binary64 ((485 + h) * 2 ^ 52 + m) ≡ nearest_root n
+  root_at = read_back (nearest_root n) m (485 + h) (nearest_fits n)
       (subst (λ (v : Float). HasValue v false (m * 2 ^ (485 + h)) (2 ^ 1074)) (sym rounded)
       (units_val binary64 false m (485 + h) (lt_of_lt_of_le (shl_lt 53 (485 + h) (half_high s q S' W)) (pow_mono {j = 2098} (omega arith)))))
       (half_low s q S W) (half_high s q S' W)
 
-  pub root-small : (485 + h) * 2 ^ 52 + m < 2047 * 2 ^ 52
-  root-small = omega (arith, half_high s q S' W)
+  pub root_small : (485 + h) * 2 ^ 52 + m < 2047 * 2 ^ 52
+  root_small = omega (arith, half_high s q S' W)

@@ -8,7 +8,7 @@ use lib.Ieee.Positive.{positive}
 use Rattle.float64.specs.Root.{units, root_of}
 use Rattle.float64.specs.Rule.{units_of, Nearest}
 use Rattle.float64.proofs.Form.{form, nearest_form}
-use Rattle.float64.proofs.Values.{in-range, value}
+use Rattle.float64.proofs.Values.{in_range, value}
 use Rattle.float64.proofs.Ways.{units_is, root_of_units}
 
 -- ---- what the tests say of a finite value above zero
@@ -45,14 +45,14 @@ module _ (x : Float) (f : T (fits binary64 x)) (p : T (positive x)) where
   b = to_bits binary64 x
 
   range : (0 < b) × (b < 0x7ff0_0000_0000_0000)
-  range = in-range x f (pos_no_nan x p) (pos_eq x p) (pos_lt x p) (pos_finite x f p)
+  range = in_range x f (pos_no_nan x p) (pos_eq x p) (pos_lt x p) (pos_finite x f p)
 
-  has-units : HasValue x false (units_of b) (2 ^ 1074)
-  has-units = value x f (pos_no_nan x p) (pos_eq x p) (pos_lt x p) (pos_finite x f p)
+  has_units : HasValue x false (units_of b) (2 ^ 1074)
+  has_units = value x f (pos_no_nan x p) (pos_eq x p) (pos_lt x p) (pos_finite x f p)
 
   -- x lies strictly between the squares of the two midpoints around its root
-  pub root-nearest : Nearest (units x) (to_bits binary64 (root_of x))
-  root-nearest =
-      subst (λ (n : ℕ). Nearest n (to_bits binary64 (root_of x))) (sym (units_is x (units_of b) has-units))
-      (subst (λ (v : Float). Nearest (units_of b) (to_bits binary64 v)) (root_of_units x (units_of b) has-units (pos_eq x p))
+  pub root_nearest : Nearest (units x) (to_bits binary64 (root_of x))
+  root_nearest =
+      subst (λ (n : ℕ). Nearest n (to_bits binary64 (root_of x))) (sym (units_is x (units_of b) has_units))
+      (subst (λ (v : Float). Nearest (units_of b) (to_bits binary64 v)) (root_of_units x (units_of b) has_units (pos_eq x p))
       (nearest_form (units_of b) (form b range.0 range.1)))

@@ -11,7 +11,7 @@ use Rattle.float64.specs.Root.{units, nearest_root, root_of}
 use Rattle.float64.specs.Rule.{IsRoot, SqrtCall}
 use Rattle.float64.proofs.Order.{nearest_only}
 use Rattle.float64.proofs.Pattern.{nearest_fits}
-use Rattle.float64.proofs.Positive.{above_zero, root-nearest}
+use Rattle.float64.proofs.Positive.{above_zero, root_nearest}
 use Rattle.float64.proofs.Ways.{root_zero, root_neg}
 
 -- ---- the root fits
@@ -42,7 +42,7 @@ same_bits r v f g h = sym (of_bits-to_bits binary64 r f) ∙ ap (of_bits binary6
 pub root_is : (x : Float) → T (fits binary64 x) → IsRoot x (root_of x)
 unfolding root_of of_bits div
 root_is x f = record {
-  of_number = root-nearest x f;
+  of_number = root_nearest x f;
   of_zero = λ t. sym (root_zero x (is_true (eq x (fin false 0 (pos 0))) t));
   of_inf = ap root_of;
   of_nan = ap root_of;
@@ -66,7 +66,7 @@ root_only (fin true (suc m) e) r f g w =
 root_only (fin false (suc m) e) r f g w =
     let x = fin false (suc m) e in
     let p : T (positive x) = lt→ltb 0 (suc m) (omega arith) in
-    same_bits r (root_of x) g (root_fits x f) (nearest_only (units x) (to_bits binary64 r) (to_bits binary64 (root_of x)) (w.of_number p) (root-nearest x f p))
+    same_bits r (root_of x) g (root_fits x f) (nearest_only (units x) (to_bits binary64 r) (to_bits binary64 (root_of x)) (w.of_number p) (root_nearest x f p))
 
 -- So two answers that meet the rule are equal.
 pub root_unique : (x r s : Float) → T (fits binary64 x) → T (fits binary64 r) → T (fits binary64 s) → IsRoot x r → IsRoot x s → r ≡ s

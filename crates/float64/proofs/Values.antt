@@ -84,18 +84,18 @@ module _ (x : Float) (f : T (fits binary64 x)) (n : T (not (is_nan x)))
   again : of_bits binary64 b ≡ x
   again = of_bits-to_bits binary64 x f
 
-  under-sign : b < 2 ^ 63
-  under-sign = leb-false (2 ^ 63) b (sym (sign_bits b number) ∙ ap sign again ∙ no_minus x k h)
+  under_sign : b < 2 ^ 63
+  under_sign = leb-false (2 ^ 63) b (sym (sign_bits b number) ∙ ap sign again ∙ no_minus x k h)
 
-  under-inf : b % 2 ^ 63 ≤ 0x7ff0_0000_0000_0000
-  under-inf = ltb-false 0x7ff0_0000_0000_0000 (b % 2 ^ 63) (sym (nan_bits_above binary64 b) ∙ nan_bits_is binary64 b ∙ number)
+  under_inf : b % 2 ^ 63 ≤ 0x7ff0_0000_0000_0000
+  under_inf = ltb-false 0x7ff0_0000_0000_0000 (b % 2 ^ 63) (sym (nan_bits_above binary64 b) ∙ nan_bits_is binary64 b ∙ number)
 
   no_zero : b ≡ 0 → ⊥
   unfolding eq of_bits
   no_zero z = true≢false (subst (λ (v : Float). eq v (of_bits binary64 0) ≡ false) (sym again ∙ ap (of_bits binary64) z) k)
 
-  pub in-range : (0 < b) × (b < 0x7ff0_0000_0000_0000)
-  in-range = (omega (arith, no_zero), omega (arith, under-sign, under-inf, i))
+  pub in_range : (0 < b) × (b < 0x7ff0_0000_0000_0000)
+  in_range = (omega (arith, no_zero), omega (arith, under_sign, under_inf, i))
 
   pub value : HasValue x false (units_of b) (2 ^ 1074)
-  value = subst (λ (v : Float). HasValue v false (units_of b) (2 ^ 1074)) again (bits_value b in-range.1)
+  value = subst (λ (v : Float). HasValue v false (units_of b) (2 ^ 1074)) again (bits_value b in_range.1)

@@ -10,8 +10,8 @@ use Rattle.hexdigits.specs.ReadBack.{length_digits, number_in, float_back, float
 use Rattle.rule.specs.Rule.{Fit}
 use Rattle.rule.specs.Calls.{report_of}
 use Rattle.rule.specs.Codes.{stop_code, stop_term}
-use Rattle.rule.specs.Promises.{coefficients-fit}
-use Rattle.rule.specs.Errors.{error-fits}
+use Rattle.rule.specs.Promises.{coefficients_fit}
+use Rattle.rule.specs.Errors.{error_fits}
 use Rattle.rule.specs.declared.Task.{Task}
 use Rattle.rule.specs.declared.Stop.{Stop}
 use Rattle.rule.specs.declared.Stop.TheVariants.{NoData, FirstRefused, Empty, RefitRefused, Settled, OutOfRounds}
@@ -22,7 +22,7 @@ use Rattle.exchange.specs.Reading.{target_fits}
 use Rattle.frames.specs.Exchange.{checked, fit_asked, fit_lines, answer_of}
 use Rattle.frames.specs.Cases.{answer_good, was_accepted}
 use Rattle.writer.specs.Lines.{lines_append, length_lines, length_report}
-use Rattle.frames.specs.InDigits.{refits-within, kept-within, term-within}
+use Rattle.frames.specs.InDigits.{refits_within, kept_within, term_within}
 use Rattle.reader.specs.declared.inner.header.Head.TheVariants.{Good}
 use Rattle.refusal.specs.declared.Answer.TheVariants.{Done}
 
@@ -51,8 +51,8 @@ line_at xs j h =
     ∙ ap (λ (t : List ℕ). coefficient_lines (take j xs) ++ t) (append_snoc (digits 16 (bits (at xs j))) newline (coefficient_lines (drop (suc j) xs)))
 
 module _ (report : List ℕ) (xs : List Float) (j : ℕ) (h : j < length xs) (f : T (fits binary64 (at xs j))) where
-  coefficient-back : length report ≡ report_bytes → float (report ++ coefficient_lines xs) (report_bytes + coefficient_bytes * j) ≡ at xs j
-  coefficient-back len =
+  coefficient_back : length report ≡ report_bytes → float (report ++ coefficient_lines xs) (report_bytes + coefficient_bytes * j) ≡ at xs j
+  coefficient_back len =
       let before = report ++ coefficient_lines (take j xs) in
       let some : length (take j xs) ≡ j = length-take-le j xs (omega arith) in
       let place : length before ≡ report_bytes + coefficient_bytes * j = omega (arith, len, length-append report (coefficient_lines (take j xs)), length_lines (take j xs), some) in
@@ -75,22 +75,22 @@ lines_read_back f r k u x g =
       kept = number_in _ (stop ++ refits) (term ++ lines) 6 16 _ (simp append_assoc) (simp (length-append, length_digits)) k;
       term = number_in _ (stop ++ (refits ++ kept)) lines 22 2 _ (simp append_assoc) (simp (length-append, length_digits)) u;
       error = float_in _ (stop ++ (refits ++ (kept ++ term))) rest 24 _ (simp append_assoc) (simp (length-append, length_digits)) x;
-      coefficient = λ j h. coefficient-back (report_line (report_of f)) f.coeffs j h (g j) (length_report (report_of f));
+      coefficient = λ j h. coefficient_back (report_line (report_of f)) f.coeffs j h (g j) (length_report (report_of f));
     }
 
 -- every coefficient of an input's fit is a binary64, since those of its target are
 coefficients_in_format : (s : List ℕ) (task : Task) (j : ℕ) → T (fits binary64 (at (fit_asked s task).coeffs j))
 unfolding fit_asked
-coefficients_in_format s task = coefficients-fit task _ (at (target_asked s task)) (target_fits s task)
+coefficients_in_format s task = coefficients_fit task _ (at (target_asked s task)) (target_fits s task)
 
 -- and so is its error
 error_in_format : (s : List ℕ) (task : Task) → T (fits binary64 (fit_asked s task).error)
 unfolding fit_asked
-error_in_format s task = error-fits task _ _
+error_in_format s task = error_fits task _ _
 
 -- the answer to an accepted input says its fit: the stop, the refits, the kept word, the refused term, the squared error, and each coefficient, a NaN as a NaN
 pub answer_read_back : (s : List ℕ) (task : Task) → head_of s ≡ Good task → checked s task ≡ Done → Says (answer_of s) (fit_asked s task)
 unfolding answer_lines
 answer_read_back s task e c =
     let ok = was_accepted s task c in
-    rw (answer_good s task Done e c) (lines_read_back (fit_asked s task) (refits-within s task ok) (kept-within s task ok) (term-within s task ok) (error_in_format s task) (coefficients_in_format s task))
+    rw (answer_good s task Done e c) (lines_read_back (fit_asked s task) (refits_within s task ok) (kept_within s task ok) (term_within s task ok) (error_in_format s task) (coefficients_in_format s task))

@@ -28,8 +28,8 @@ unfolding digits
 digits_more j rest tail = rw add-one (append_snoc (digits j (rest / 16)) (glyph (rest % 16)) tail)
 
 module _ (w n a : ℕ) (was : List ℕ) where
-  pub writing-none : Writing w n a was 0 w was
-  writing-none =
+  pub writing_none : Writing w n a was 0 w was
+  writing_none =
       let e : n - 0 ≡ n = omega arith in
       record { tail = []; high = omega arith; long = refl; left = rw e (append-nil (digits n w)); bytes = put_none (a + (n - 0)) was }
 
@@ -48,8 +48,8 @@ module _ (w n a : ℕ) (was : List ℕ) where
         bytes = rw (f.bytes, now, next, ← add_assoc a j 1) (put_before (a + j) g f.tail was (omega arith));
       }
 
-  pub writing-end : {k rest : ℕ} {out : List ℕ} → n ≤ k → Writing w n a was k rest out → Written a (digits n w) was out (a + n)
-  writing-end {k} {rest} h f =
+  pub writing_end : {k rest : ℕ} {out : List ℕ} → n ≤ k → Writing w n a was k rest out → Written a (digits n w) was out (a + n)
+  writing_end {k} {rest} h f =
       let e : n - k ≡ 0 = omega arith in
       let all : f.tail ≡ digits n w = rw (e, digits_none) at f.left in
       record { place = omega (arith, length_digits n w); bytes = f.bytes ∙ rw (e, add-zero, all) }

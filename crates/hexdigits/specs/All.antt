@@ -35,22 +35,22 @@ module _ (f : ℕ → Bool) where
   all_end {i} {n} a h k = let e : i ≡ n = omega arith in rw e at a
 
   -- one that fails
-  pub all-not : (i n : ℕ) → i < n → f i ≡ false → all f n ≡ false
+  pub all_not : (i n : ℕ) → i < n → f i ≡ false → all f n ≡ false
   unfolding all
-  all-not i n h e =
+  all_not i n h e =
       le_ind (λ (m : ℕ). all f m ≡ false) (ap (λ (t : Bool). all f i && t) e ∙ and_false (all f i)) (λ m l a. ap (λ (t : Bool). t && f m) a) n h
 
-  pub all-at : (n k : ℕ) → all f n ≡ true → k < n → f k ≡ true
+  pub all_at : (n k : ℕ) → all f n ≡ true → k < n → f k ≡ true
   unfolding all
-  all-at zero k a h = absurd (omega arith)
-  all-at (suc n) k a h =
+  all_at zero k a h = absurd (omega arith)
+  all_at (suc n) k a h =
       let both = and_both (all f n) (f n) a in
       elim (dec_lt k n) [
-        | yes l ↦ all-at n k both.0 l
+        | yes l ↦ all_at n k both.0 l
         | no l ↦ let e : n ≡ k = omega (arith, l) in rw e at both.1
       ]
 
-  pub all-each : (n : ℕ) → ((k : ℕ) → k < n → f k ≡ true) → all f n ≡ true
+  pub all_each : (n : ℕ) → ((k : ℕ) → k < n → f k ≡ true) → all f n ≡ true
   unfolding all
-  all-each zero h = refl
-  all-each (suc n) h = ap₂ ◌&&◌ (all-each n (λ k l. h k (omega arith))) (h n (omega arith))
+  all_each zero h = refl
+  all_each (suc n) h = ap₂ ◌&&◌ (all_each n (λ k l. h k (omega arith))) (h n (omega arith))

@@ -24,14 +24,14 @@ with_first : {a b : List Float} {x : Float} → a ≡ b → ◌≡◌ {A = List 
 with_first q = rw q
 
 module _ (m n j : ℕ) (l : List Float) {lead s norm : Float} (is-lead : lead ≡ cell n l j j) (is_sum : s ≡ along j m (led lead (cell n l) j) (led lead (cell n l) j)) (is-norm : norm ≡ root_of s) where
-  at-norm : column m n j l ≡ normed m n j l norm
+  at_norm : column m n j l ≡ normed m n j l norm
   unfolding column
-  at-norm = rw (is-norm, is_sum, is-lead)
+  at_norm = rw (is-norm, is_sum, is-lead)
 
   -- the norm is too small
   pub skips : lt norm 1e-15 ≡ true → (l, +zero) ≡ column m n j l
   unfolding normed
-  skips small = sym (at-norm ∙ rw small)
+  skips small = sym (at_norm ∙ rw small)
 
   module _ {side q : Float} (is-side : side ≡ sign lead) (is-q : let v = led (plus lead (times side norm)) (cell n l) j in q ≡ along j m v v) (large : lt norm 1e-15 ≡ false) where
     abbrev x : Float
@@ -39,12 +39,12 @@ module _ (m n j : ℕ) (l : List Float) {lead s norm : Float} (is-lead : lead �
 
     at_push : column m n j l ≡ pushed m n j l x q
     unfolding normed
-    at_push = at-norm ∙ rw (large, is-q, is-side, is-lead)
+    at_push = at_norm ∙ rw (large, is-q, is-side, is-lead)
 
     -- the sum of squares is too small
-    pub skips-push : lt q 1e-30 ≡ true → (l, +zero) ≡ column m n j l
+    pub skips_push : lt q 1e-30 ≡ true → (l, +zero) ≡ column m n j l
     unfolding pushed
-    skips-push small = sym (at_push ∙ rw small)
+    skips_push small = sym (at_push ∙ rw small)
 
     -- the columns have lost their shares, which are the sums w times beta
     pub reflects : lt q 1e-30 ≡ false → (w t l' : List Float) → Sums m n j x l w → Wrote (λ c. c) j n (λ c. times (over two q) (at w c)) w t →

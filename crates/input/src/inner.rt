@@ -61,7 +61,7 @@ pub fn read_whole(room: &mut [u8]) -> Input
     Input::Whole(n)
 }
 
-// Reads an input of a bench program, into a room of just the length at which what a longer input has beyond it changes no answer (`cut-alike-by`).
+// Reads an input of a bench program, into a room of just the length at which what a longer input has beyond it changes no answer (`cut_alike_by`).
 pub fn read_input(room: &mut [u8]) -> Input
     requires { length room.old ≡ input_room }
     ensures { Came result room.new }

@@ -11,10 +11,10 @@ use Rattle.cholesky.specs.Cholesky.{chol_factor}
 use Rattle.inverse.specs.Inverse.{inverse, invert_end, invert}
 
 module _ (n : ℕ) (a o : List Float) where
-  pub invert-stops : (r : Solved) (col : ℕ) (l : List Float) → told r l ≡ chol_factor n a → r ≡ Refused col → told r o ≡ invert n a o
+  pub invert_stops : (r : Solved) (col : ℕ) (l : List Float) → told r l ≡ chol_factor n a → r ≡ Refused col → told r o ≡ invert n a o
   unfolding invert invert_end
-  invert-stops r col l t e = rw (e, ← rw e at t)
+  invert_stops r col l t e = rw (e, ← rw e at t)
 
-  pub invert-goes : (r : Solved) (l x : List Float) → told r l ≡ chol_factor n a → r ≡ Done → x ≡ inverse n l → going x ≡ invert n a o
+  pub invert_goes : (r : Solved) (l x : List Float) → told r l ≡ chol_factor n a → r ≡ Done → x ≡ inverse n l → going x ≡ invert n a o
   unfolding invert invert_end
-  invert-goes r l x t e i = rw (i, ← rw e at t)
+  invert_goes r l x t e i = rw (i, ← rw e at t)

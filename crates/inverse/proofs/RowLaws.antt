@@ -19,6 +19,6 @@ module _ (n i : ℕ) {x x' : List Float} where
   other_row k j g h ne w = w.rest (k * n + j) (λ c l l' e. ne (same_cell n k j i c h l' e).0)
 
   -- written once more: only the last counts
-  pub row-again : {x'' : List Float} (g f h : ℕ → Float) → WithRow n i g x x' → WithRow n i f x' x'' → ((j : ℕ) → j < n → f j ≡ h j) → WithRow n i h x x''
-  row-again g f h w u same =
+  pub row_again : {x'' : List Float} (g f h : ℕ → Float) → WithRow n i g x x' → WithRow n i f x' x'' → ((j : ℕ) → j < n → f j ≡ h j) → WithRow n i h x x''
+  row_again g f h w u same =
       record { long = u.long ∙ w.long; done = λ j l l'. u.done j l l' ∙ same j l'; rest = λ k ne. u.rest k ne ∙ w.rest k ne }

@@ -8,7 +8,7 @@ use lib.ListN.{length, take, drop, length-append, length-take, length-drop}
 use lib.Seq.{take_at, drop_at, take_all, get_or-take, get_or-drop}
 use lib.Ieee.{Float, nan}
 use Rattle.steps.specs.Num.{Entry, +zero, at}
-use Rattle.steps.specs.Space.{part, with_part, drop-with}
+use Rattle.steps.specs.Space.{part, with_part, drop_with}
 use Rattle.steps.specs.Glue.{both_parts}
 use Rattle.steps.specs.Rows.{Rows}
 use Rattle.pairs.specs.Grown.{Grew}
@@ -21,11 +21,11 @@ use Rattle.keep.specs.Taken.{KeptSums, TookPage}
 
 -- the sums as two lent parts: the square, then what stands behind it
 module _ (n : ℕ) (s : List Float) (long : length s ≡ kept_size n) where
-  pub head-long : length (take (n * n - 0) s) ≡ n * n
-  head-long = simp length-take (omega arith)
+  pub head_long : length (take (n * n - 0) s) ≡ n * n
+  head_long = simp length-take (omega arith)
 
-  tail-long : length (drop (n * n) s) ≡ n
-  tail-long = simp length-drop (omega arith)
+  tail_long : length (drop (n * n) s) ≡ n
+  tail_long = simp length-drop (omega arith)
 
   -- the first part came back as a
   module _ (a : List Float) (len : length a ≡ n * n) where
@@ -36,14 +36,14 @@ module _ (n : ℕ) (s : List Float) (long : length s ≡ kept_size n) where
     second =
         let e : n * n + n - n * n ≡ n = omega arith in
         let e' : length a ≡ n * n - 0 = omega (arith, len) in
-        rw (e, drop-with 0 (n * n) a s (omega arith) (omega arith) e' (n * n) (omega arith)) (take_all n (drop (n * n) s) (omega (arith, tail-long)))
+        rw (e, drop_with 0 (n * n) a s (omega arith) (omega arith) e' (n * n) (omega arith)) (take_all n (drop (n * n) s) (omega (arith, tail_long)))
 
     -- and the second as b
     pub took : (page target : List Float) (h i : ℕ) (b : List Float) → length b ≡ length (part (n * n) (n * n + n) between) → Grew page n h 0 n 0 n (take (n * n - 0) s) a →
         Filled n (with_targets page n h target i (part (n * n) (n * n + n) between)) b → TookPage page n h target i s (with_part (n * n) (n * n + n) b between)
     took page target h i b len' g f =
         let both = both_parts (n * n) n s a b long len in
-        let behind = rw second at len' ∙ tail-long in
+        let behind = rw second at len' ∙ tail_long in
         record {
           long = rw both (simp length-append (omega (arith, len, behind, long)));
           pairs = rw (both, take_at a b (n * n) len) (rw sub-zero at g);
@@ -55,7 +55,7 @@ pub kept_none : (e : Entry) (t : ℕ → Float) (n : ℕ) (s : List Float) → l
 kept_none e t n s long zeros =
     record {
       long = long;
-      pairs = sums_none e n _ (rw sub-zero at (head-long n s long)) (λ k h. get_or-take (n * n) s k nan h ∙ zeros k (omega arith));
+      pairs = sums_none e n _ (rw sub-zero at (head_long n s long)) (λ k h. get_or-take (n * n) s k nan h ∙ zeros k (omega arith));
       products = products_none e t n _ (λ q b. get_or-drop (n * n) s q nan ∙ zeros (n * n + q) (omega arith));
     }
 
@@ -73,4 +73,4 @@ kept_more e n i h page target s t o m g =
 pub kept_end : (e : Entry) (t : ℕ → Float) (n rows : ℕ) (s a : List Float) → KeptSums e t n rows s → Rows n n (upper n (take (n * n - 0) s)) (take (n * n - 0) s) n a →
     with_part 0 (n * n) a s ≡ kept_sums n (gram e rows) (moment e t rows)
 unfolding with_part kept_sums jtr_column
-kept_end e t n rows s a m w = rw sub-zero (ap₂ ◌++◌ (mirror_end e n rows _ a m.pairs (rw sub-zero at w)) (products_end n _ _ (tail-long n s m.long) m.products))
+kept_end e t n rows s a m w = rw sub-zero (ap₂ ◌++◌ (mirror_end e n rows _ a m.pairs (rw sub-zero at w)) (products_end n _ _ (tail_long n s m.long) m.products))

@@ -2,7 +2,7 @@
 use Rattle.std.specs.Prelude.{ℕ, List, Float}
 use Rattle.std.specs.Float.Ieee.{lt}
 use Rattle.steps.specs.Num.{1e-15, cell}
-use Rattle.steps.specs.Loops.{Way, going, stopped, StopsBelow, way-down-below}
+use Rattle.steps.specs.Loops.{Way, going, stopped, StopsBelow, way_down_below}
 use Rattle.steps.specs.Cond.{either}
 use Rattle.float64.specs.Root.{abs_of}
 use Rattle.refusal.specs.Answers.{Within}
@@ -12,7 +12,7 @@ use Rattle.least.specs.Least.{back_column, back, values, least}
 
 back_refuses : (n : ℕ) (a x : List Float) → StopsBelow n (back n a x)
 unfolding back back_column
-back_refuses n a x = way-down-below (back_column n a) n (λ j y h. either (StopsBelow n) (lt (abs_of (cell n a j j)) 1e-15) _ _ (λ t. h) (λ t. tt)) x
+back_refuses n a x = way_down_below (back_column n a) n (λ j y h. either (StopsBelow n) (lt (abs_of (cell n a j j)) 1e-15) _ _ (λ t. h) (λ t. tt)) x
 
 pub least_refuses : (m n : ℕ) (a b : List Float) → Within n (least m n a b)
 unfolding least values

@@ -43,12 +43,12 @@ module _ (k : ℕ) (e : Entry) (t cs : ℕ → Float) where
   row_more i p q r = sum_more +zero 0 i _ (omega arith) p (ap₂ (λ (x y : Float). square (less x y)) q r)
 
   -- four rows more, one after the other: a, b, c and d are the sums of their products
-  pub four-more : (i : ℕ) (z : Float) {a b c d x y u v : Float}
+  pub four_more : (i : ℕ) (z : Float) {a b c d x y u v : Float}
       → x ≡ plus z (square (less (t i) a)) → y ≡ plus x (square (less (t (i + 1)) b)) → u ≡ plus y (square (less (t (i + 2)) c)) → v ≡ plus u (square (less (t (i + 3)) d))
       → a ≡ products k (e i) cs → b ≡ products k (e (i + 1)) cs → c ≡ products k (e (i + 2)) cs → d ≡ products k (e (i + 3)) cs
       → v ≡ sum z 0 4 (λ h. square (leftover k e t cs (i + h)))
   unfolding leftover
-  four-more i z ex ey eu ev p q r s =
+  four_more i z ex ey eu ev p q r s =
       let f : ℕ → Float = λ h. square (leftover k e t cs (i + h)) in
       let here : i + 0 ≡ i = add-zero i in
       let first = ex ∙ sum_more z 0 0 f (omega arith) (sym (sum_none z 0 f)) (rw (here, p)) in
@@ -71,12 +71,12 @@ module _ (e : Entry) (cs : ℕ → Float) (i h : ℕ) where
 
   pub sums_more : (p : ℕ) (s s' : List Float) (column : ℕ → Float) {x : Float} → RowSums p e cs i h s → Wrote (λ m. m) 0 h (λ m. plus (at s m) (times (column m) x)) s s'
       → ((m : ℕ) → column m ≡ e (i + m) p) → x ≡ cs p → RowSums (p + 1) e cs i h s'
-  sums_more p s s' column was w is-column is_x = record { each = λ m l. w.done m (omega arith) l ∙ products_more (e (i + m)) cs p (was.each m l) (is-column m) is_x }
+  sums_more p s s' column was w is_column is_x = record { each = λ m l. w.done m (omega arith) l ∙ products_more (e (i + m)) cs p (was.each m l) (is_column m) is_x }
 
-  pub page-more : (k : ℕ) (t : ℕ → Float) (s : List Float) {z r : Float} → RowSums k e cs i h s → z ≡ squares i k e t cs → r ≡ sum z 0 h (λ m. square (less (t (i + m)) (at s m)))
+  pub page_more : (k : ℕ) (t : ℕ → Float) (s : List Float) {z r : Float} → RowSums k e cs i h s → z ≡ squares i k e t cs → r ≡ sum z 0 h (λ m. square (less (t (i + m)) (at s m)))
       → r ≡ squares (i + h) k e t cs
   unfolding squares leftover
-  page-more k t s {z} o p q =
+  page_more k t s {z} o p q =
       q
       ∙ sum_cong z 0 h _ _ (λ m a l. ap (λ (x : Float). square (less (t (i + m)) x)) (o.each m l))
       ∙ ap (λ (x : Float). sum x 0 h (λ m. square (leftover k e t cs (i + m)))) p

@@ -7,7 +7,7 @@ use Rattle.steps.specs.Sums.{sum, sum_none, sum_cong}
 use Rattle.support.specs.Word.{term}
 use Rattle.support.specs.TermLaws.{term_below}
 use Rattle.places.specs.Columns.{columns, Lists, listed}
-use Rattle.places.specs.ColumnLaws.{listed-is}
+use Rattle.places.specs.ColumnLaws.{listed_is}
 use Rattle.leftover.specs.Error.{products, leftover, square, squares, squared_error, listed_coeffs}
 
 -- the squares look only at the entries of their rows and columns, and at these columns' coefficients
@@ -30,7 +30,7 @@ unfolding squared_error listed_coeffs
 error_listed rows n k e t w cs table l q p =
     p
     ∙ ap (λ (m : ℕ). squares rows m (listed table e) t (listed_coeffs table cs)) q
-    ∙ squares_cong rows (ones w) _ _ t _ _ (λ i p a b. listed-is n w table l e i p b) (λ p b. ap (at cs) (l.each p b))
+    ∙ squares_cong rows (ones w) _ _ t _ _ (λ i p a b. listed_is n w table l e i p b) (λ p b. ap (at cs) (l.each p b))
 
 -- with no rows it is +0.0
 pub without_rows : (n : ℕ) (e : Entry) (t : ℕ → Float) (w : ℕ) (cs : List Float) → squared_error 0 n e t w cs ≡ +zero

@@ -10,10 +10,10 @@ use Rattle.refusal.specs.declared.Solved.TheVariants.{Done, Refused}
 use Rattle.lu.specs.Lu.{lu_factor, lu_forward, lu_back, lu_end, lu}
 
 module _ (n : ℕ) (a b : List Float) where
-  pub lu-stops : (r : Solved) (col : ℕ) (a' b' : List Float) → told r (a', b') ≡ lu_factor n a b → r ≡ Refused col → told r (a', b') ≡ lu n a b
+  pub lu_stops : (r : Solved) (col : ℕ) (a' b' : List Float) → told r (a', b') ≡ lu_factor n a b → r ≡ Refused col → told r (a', b') ≡ lu n a b
   unfolding lu lu_end
-  lu-stops r col a' b' t e = rw (e, ← rw e at t)
+  lu_stops r col a' b' t e = rw (e, ← rw e at t)
 
-  pub lu-goes : (r : Solved) (a' b' x y : List Float) → told r (a', b') ≡ lu_factor n a b → r ≡ Done → x ≡ lu_forward n a' b' → y ≡ lu_back n a' x → going (a', y) ≡ lu n a b
+  pub lu_goes : (r : Solved) (a' b' x y : List Float) → told r (a', b') ≡ lu_factor n a b → r ≡ Done → x ≡ lu_forward n a' b' → y ≡ lu_back n a' x → going (a', y) ≡ lu n a b
   unfolding lu lu_end
-  lu-goes r a' b' x y t e f g = rw (g, f, ← rw e at t)
+  lu_goes r a' b' x y t e f g = rw (g, f, ← rw e at t)

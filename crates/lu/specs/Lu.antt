@@ -2,7 +2,7 @@
 use Rattle.std.specs.Prelude.{◌≡◌, ℕ, ◌+◌, ◌*◌, ◌<◌, cond, List, eqb, set, Float}
 use Rattle.std.specs.Float.Ieee.{lt}
 use Rattle.steps.specs.Num.{less, times, over, 1e-15, at, cell}
-use Rattle.steps.specs.Loops.{loop, down-from, Way, going, stopped, way}
+use Rattle.steps.specs.Loops.{loop, down_from, Way, going, stopped, way}
 use Rattle.steps.specs.Sums.{less_sum}
 use Rattle.steps.specs.Space.{swapped}
 use Rattle.float64.specs.Root.{abs_of}
@@ -62,7 +62,7 @@ lu_forward n a b = loop 0 n (λ i x. set x i (less_sum (at x i) 0 i (λ k. times
 
 -- then back substitution
 unfoldable pub lu_back : ℕ → List Float → List Float → List Float
-lu_back n a b = down-from n (λ i x. set x i (over (less_sum (at x i) (i + 1) n (λ k. times (cell n a i k) (at x k))) (cell n a i i))) b
+lu_back n a b = down_from n (λ i x. set x i (over (less_sum (at x i) (i + 1) n (λ k. times (cell n a i k) (at x k))) (cell n a i i))) b
 
 -- both, with what the factors came to: a refusal leaves the matrix and b as the steps so far made them
 unfoldable pub lu_end : ℕ → Way (List Float × List Float) → Way (List Float × List Float)

@@ -10,10 +10,10 @@ pub normal_refuses : (n : ℕ) (a b : List Float) → StopsBelow n (normal n a b
 unfolding normal or_lu
 normal_refuses n a b = go (cholesky n a b)
   where
-    by-lu : (f : Way (List Float × List Float)) → StopsBelow n f → StopsBelow n (right_side f)
-    by-lu (going s) p = tt
-    by-lu (stopped c s) p = p
+    by_lu : (f : Way (List Float × List Float)) → StopsBelow n f → StopsBelow n (right_side f)
+    by_lu (going s) p = tt
+    by_lu (stopped c s) p = p
 
     go : (f : Way (List Float × List Float)) → StopsBelow n (or_lu n a b f)
     go (going s) = tt
-    go (stopped c s) = by-lu (lu n a b) (lu_refuses n a b)
+    go (stopped c s) = by_lu (lu n a b) (lu_refuses n a b)

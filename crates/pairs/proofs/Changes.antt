@@ -15,20 +15,20 @@ use Rattle.pairs.specs.Grown.{with_rows, Fits, Change, Changed, Grew}
 
 -- the page and the sums have room for each row
 module _ (n h : ℕ) (page out : List Float) (f : Fits n h page out) where
-  pub in-page : (i : ℕ) → i < h → (i + 1) * n ≤ length page
-  in-page i l = let z : i + 1 ≤ h = omega arith in omega (arith, f.room, mul-le-mul_right n z)
+  pub in_page : (i : ℕ) → i < h → (i + 1) * n ≤ length page
+  in_page i l = let z : i + 1 ≤ h = omega arith in omega (arith, f.room, mul-le-mul_right n z)
 
-  pub in-square : (r : ℕ) → r ≤ n → r * n ≤ length out
-  in-square r l = omega (arith, f.square, mul-le-mul_right n l)
+  pub in_square : (r : ℕ) → r ≤ n → r * n ≤ length out
+  in_square r l = omega (arith, f.square, mul-le-mul_right n l)
 
   -- the same page for other sums of that size
-  pub fits-still : (out' : List Float) → length out' ≡ length out → Fits n h page out'
-  fits-still out' e = record { room = f.room; square = e ∙ f.square }
+  pub fits_still : (out' : List Float) → length out' ≡ length out → Fits n h page out'
+  fits_still out' e = record { room = f.room; square = e ∙ f.square }
 
 module _ (f : Change) (n : ℕ) where
   -- no column, no row
-  pub no-column : (r0 r1 c c' : ℕ) (s : List Float) → c' ≤ c → Changed f n r0 r1 c c' s s
-  no-column r0 r1 c c' s h = record { long = refl; done = λ i j l m k. absurd (omega arith); rest = λ i j l m k. refl }
+  pub no_column : (r0 r1 c c' : ℕ) (s : List Float) → c' ≤ c → Changed f n r0 r1 c c' s s
+  no_column r0 r1 c c' s h = record { long = refl; done = λ i j l m k. absurd (omega arith); rest = λ i j l m k. refl }
 
   pub no_row : (r r' c0 c1 : ℕ) (s : List Float) → r' ≤ r → Changed f n r r' c0 c1 s s
   no_row r r' c0 c1 s h = record { long = refl; done = λ i j l m k. absurd (omega arith); rest = λ i j l m k. refl }

@@ -23,8 +23,8 @@ module _ (n i q : ℕ) (f : Four) (s : List Float) where
   abbrev s3 : List Float
   s3 = set s2 (i * n + (q + 2)) f.c
 
-  pub four-put : (i + 1) * n ≤ length s → q + 4 ≤ n → PutFour n i q f s (set s3 (i * n + (q + 3)) f.d)
-  four-put room hq =
+  pub four_put : (i + 1) * n ≤ length s → q + 4 ≤ n → PutFour n i q f s (set s3 (i * n + (q + 3)) f.d)
+  four_put room hq =
       record {
         put = λ e o.
             let put : Change = λ r c x. e r c in

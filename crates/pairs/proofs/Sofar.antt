@@ -22,8 +22,8 @@ module _ (page : List Float) (n : ℕ) (s : List Float) where
   one_more i r c e e' e'' = sum_more _ 0 i _ (omega arith) e (ap₂ times e' e'')
 
   -- four of row r
-  pub four-none : (r q : ℕ) (f : Four) → FourOf (cell n s r) q f → FourOf (with_rows page n 0 s r) q f
-  four-none r q f o =
+  pub four_none : (r q : ℕ) (f : Four) → FourOf (cell n s r) q f → FourOf (with_rows page n 0 s r) q f
+  four_none r q f o =
       record {
         first = o.first ∙ one_none r q;
         second = o.second ∙ one_none r (q + 1);
@@ -31,9 +31,9 @@ module _ (page : List Float) (n : ℕ) (s : List Float) where
         fourth = o.fourth ∙ one_none r (q + 3);
       }
 
-  pub four-more : (i r q : ℕ) (f : Four) (x : Float) (y g : Four) → FourOf (with_rows page n i s r) q f → x ≡ cell n page i r → FourOf (cell n page i) q y → Took f x y g →
+  pub four_more : (i r q : ℕ) (f : Four) (x : Float) (y g : Four) → FourOf (with_rows page n i s r) q f → x ≡ cell n page i r → FourOf (cell n page i) q y → Took f x y g →
       FourOf (with_rows page n (i + 1) s r) q g
-  four-more i r q f x y g o e o' k =
+  four_more i r q f x y g o e o' k =
       record {
         first = k.first ∙ one_more i r q o.first e o'.first;
         second = k.second ∙ one_more i r (q + 1) o.second e o'.second;
@@ -42,21 +42,21 @@ module _ (page : List Float) (n : ℕ) (s : List Float) where
       }
 
   -- four by four
-  pub tile-none : (p q : ℕ) (t : Tile) → TileOf (cell n s) p q t → TileOf (with_rows page n 0 s) p q t
-  tile-none p q t o =
+  pub tile_none : (p q : ℕ) (t : Tile) → TileOf (cell n s) p q t → TileOf (with_rows page n 0 s) p q t
+  tile_none p q t o =
       record {
-        first = four-none p q t.a o.first;
-        second = four-none (p + 1) q t.b o.second;
-        third = four-none (p + 2) q t.c o.third;
-        fourth = four-none (p + 3) q t.d o.fourth;
+        first = four_none p q t.a o.first;
+        second = four_none (p + 1) q t.b o.second;
+        third = four_none (p + 2) q t.c o.third;
+        fourth = four_none (p + 3) q t.d o.fourth;
       }
 
-  pub tile-more : (i p q : ℕ) (t : Tile) (x y : Four) (u : Tile) → TileOf (with_rows page n i s) p q t → FourOf (cell n page i) p x → FourOf (cell n page i) q y → TileTook t x y u →
+  pub tile_more : (i p q : ℕ) (t : Tile) (x y : Four) (u : Tile) → TileOf (with_rows page n i s) p q t → FourOf (cell n page i) p x → FourOf (cell n page i) q y → TileTook t x y u →
       TileOf (with_rows page n (i + 1) s) p q u
-  tile-more i p q t x y u o ox oy k =
+  tile_more i p q t x y u o ox oy k =
       record {
-        first = four-more i p q t.a x.a y u.a o.first ox.first oy k.first;
-        second = four-more i (p + 1) q t.b x.b y u.b o.second ox.second oy k.second;
-        third = four-more i (p + 2) q t.c x.c y u.c o.third ox.third oy k.third;
-        fourth = four-more i (p + 3) q t.d x.d y u.d o.fourth ox.fourth oy k.fourth;
+        first = four_more i p q t.a x.a y u.a o.first ox.first oy k.first;
+        second = four_more i (p + 1) q t.b x.b y u.b o.second ox.second oy k.second;
+        third = four_more i (p + 2) q t.c x.c y u.c o.third ox.third oy k.third;
+        fourth = four_more i (p + 3) q t.d x.d y u.d o.fourth ox.fourth oy k.fourth;
       }

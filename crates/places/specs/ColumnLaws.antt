@@ -27,9 +27,9 @@ module _ (n w : ℕ) (table : List ℕ) (l : Lists n w table) where
   pub listed_in : (theta : List Float) (rows k : ℕ) → Within theta rows n w → k ≡ ones w → n ≤ length table → Listed rows n k table theta
   listed_in theta rows k sizes e room = record { names = names_in k sizes.few_columns sizes.terms e room; matrix = sizes.matrix }
 
-  pub listed-is : (e : Entry) (i p : ℕ) → p < ones w → listed table e i p ≡ columns n w e i p
+  pub listed_is : (e : Entry) (i p : ℕ) → p < ones w → listed table e i p ≡ columns n w e i p
   unfolding listed columns
-  listed-is e i p h = ap (e i) (l.each p h)
+  listed_is e i p h = ap (e i) (l.each p h)
 
 -- in a theta by columns, h rows of a listed column from row i on are there
 pub listed_fits : (rows n k : ℕ) (table : List ℕ) (theta : List Float) → Listed rows n k table theta → (p i h : ℕ) {j : ℕ} → j ≡ get_or table p 0 → p < k → i + h ≤ rows

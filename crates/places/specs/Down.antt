@@ -13,16 +13,16 @@ module _ (n i j h first : ℕ) (g : ℕ → Float) (s s' : List Float) (e : firs
   place_is k = omega arith
 
   -- the column itself
-  pub down-own : (k : ℕ) → k < h → cell n s' (i + k) j ≡ g k
-  down-own k l = ap (at s') (sym (place_is k)) ∙ w.done k (omega arith) l
+  pub down_own : (k : ℕ) → k < h → cell n s' (i + k) j ≡ g k
+  down_own k l = ap (at s') (sym (place_is k)) ∙ w.done k (omega arith) l
 
   -- another column
-  pub down-other : (r c : ℕ) → c < n → (c ≡ j → ⊥) → cell n s' r c ≡ cell n s r c
-  down-other r c l ne = w.rest (r * n + c) (λ k a a' q. ne (same_cell n r c (i + k) j l b (q ∙ place_is k)).1)
+  pub down_other : (r c : ℕ) → c < n → (c ≡ j → ⊥) → cell n s' r c ≡ cell n s r c
+  down_other r c l ne = w.rest (r * n + c) (λ k a a' q. ne (same_cell n r c (i + k) j l b (q ∙ place_is k)).1)
 
   -- another row
-  pub down-outside : (r c : ℕ) → c < n → (r < i) ⊎ (i + h ≤ r) → cell n s' r c ≡ cell n s r c
-  down-outside r c l out =
+  pub down_outside : (r c : ℕ) → c < n → (r < i) ⊎ (i + h ≤ r) → cell n s' r c ≡ cell n s r c
+  down_outside r c l out =
       w.rest (r * n + c) (λ k a a' q. let row = (same_cell n r c (i + k) j l b (q ∙ place_is k)).0 in ⊎_elim (λ (z : r < i). omega arith) (λ (z : i + h ≤ r). omega arith) out)
 
 -- a page of n columns has, at its columns c 0 to below c m, the rows i to below i + h of the matrix e
@@ -44,7 +44,7 @@ holds_more c m e n i h page page' below was w = record { each = λ k p a b'. by 
     old k p a l =
         dite (ℕ_discrete (c p) (c m))
         (λ (q : c p ≡ c m). rw q (own k a))
-        (λ (ne : c p ≡ c m → ⊥). down-other n 0 (c m) h (c m) _ page page' (omega arith) (below m (omega arith)) w k (c p) (below p (omega arith)) ne ∙ was.each k p a l)
+        (λ (ne : c p ≡ c m → ⊥). down_other n 0 (c m) h (c m) _ page page' (omega arith) (below m (omega arith)) w k (c p) (below p (omega arith)) ne ∙ was.each k p a l)
 
     by : (k p : ℕ) → k < h → p < m + 1 → (p ≡ m) ⊎ (p < m) → cell n page' k (c p) ≡ e (i + k) (c p)
     by k p a b' d = ⊎_elim (λ (q : p ≡ m). rw q (own k a)) (λ (l : p < m). old k p a l) d

@@ -3,7 +3,7 @@ use Rattle.std.specs.Prelude.{◌≡◌, List, ℕ, ◌*◌, ◌<◌, length, Fl
 use Rattle.std.proofs.Common.{◌∙◌, mul_comm}
 use Rattle.std.specs.Float.{nan}
 use Rattle.steps.specs.Num.{Entry, cell}
-use Rattle.steps.specs.Table.{table, length-table, at_table}
+use Rattle.steps.specs.Table.{table, length_table, at_table}
 use Rattle.places.specs.declared.Layout.{Layout}
 use Rattle.places.specs.declared.Layout.TheVariants.{ByRows, ByColumns}
 
@@ -26,5 +26,5 @@ stored_found ByColumns rows n e i j a b = at_table n rows (λ j i. e i j) j i na
 -- and it is as many numbers
 pub length_laid_out : (l : Layout) (rows n : ℕ) (e : Entry) → length (laid_out l rows n e) ≡ rows * n
 unfolding laid_out
-length_laid_out ByRows rows n e = length-table rows n e
-length_laid_out ByColumns rows n e = length-table n rows (λ j i. e i j) ∙ mul_comm n rows
+length_laid_out ByRows rows n e = length_table rows n e
+length_laid_out ByColumns rows n e = length_table n rows (λ j i. e i j) ∙ mul_comm n rows

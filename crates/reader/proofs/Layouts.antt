@@ -6,7 +6,7 @@ use native.Mathlib.Nat.{zero-add, mul_comm}
 use native.Mathlib.Omega.{arith}
 use lib.ListN.{take}
 use lib.Ieee.{Float}
-use Rattle.steps.specs.Table.{tab, tab-cong, table, table-cong}
+use Rattle.steps.specs.Table.{tab, tab_cong, table, table_cong}
 use Rattle.places.specs.declared.Layout.{Layout}
 use Rattle.places.specs.declared.Layout.TheVariants.{ByRows, ByColumns}
 use Rattle.places.specs.Stored.{laid_out}
@@ -25,32 +25,32 @@ module _ (s : List ℕ) (layout : Layout) (rows cols width : ℕ) (wide : width 
 
   module _ (told : layout ≡ ByRows) where
     -- by rows theta is all but the first number of each frame
-    pub theta-by-rows : Fine → PartOf s width 0 rows 1 cols
-    theta-by-rows f = let fine = rw told at f in rw (wide, told) (record { count = rows; formed = fine; there = omega arith; wide = omega arith })
+    pub theta_by_rows : Fine → PartOf s width 0 rows 1 cols
+    theta_by_rows f = let fine = rw told at f in rw (wide, told) (record { count = rows; formed = fine; there = omega arith; wide = omega arith })
 
-    pub by-rows-theta : (theta : List Float) → take (rows * cols) theta ≡ part 0 rows 1 cols → take (rows * cols) theta ≡ laid_out layout rows cols (feature s layout rows cols)
+    pub by_rows_theta : (theta : List Float) → take (rows * cols) theta ≡ part 0 rows 1 cols → take (rows * cols) theta ≡ laid_out layout rows cols (feature s layout rows cols)
     unfolding laid_out
-    by-rows-theta theta e = e ∙ rw (wide, told) (table-cong rows cols _ _ (λ k j h l. rw (zero-add k)))
+    by_rows_theta theta e = e ∙ rw (wide, told) (table_cong rows cols _ _ (λ k j h l. rw (zero-add k)))
 
     -- and the target is that first number
-    pub target-by-rows : Fine → PartOf s width 0 rows 0 1
-    target-by-rows f = let fine = rw told at f in rw (wide, told) (record { count = rows; formed = fine; there = omega arith; wide = omega arith })
+    pub target_by_rows : Fine → PartOf s width 0 rows 0 1
+    target_by_rows f = let fine = rw told at f in rw (wide, told) (record { count = rows; formed = fine; there = omega arith; wide = omega arith })
 
-    pub by-rows-target : (t : List Float) → take (rows * 1) t ≡ part 0 rows 0 1 → take rows t ≡ tab rows (target s layout rows cols)
-    by-rows-target t e = let n : rows * 1 ≡ rows = omega arith in rw n at e ∙ one_each rows _ ∙ rw (wide, told) (tab-cong rows _ _ (λ k h. rw (zero-add k)))
+    pub by_rows_target : (t : List Float) → take (rows * 1) t ≡ part 0 rows 0 1 → take rows t ≡ tab rows (target s layout rows cols)
+    by_rows_target t e = let n : rows * 1 ≡ rows = omega arith in rw n at e ∙ one_each rows _ ∙ rw (wide, told) (tab_cong rows _ _ (λ k h. rw (zero-add k)))
 
   module _ (told : layout ≡ ByColumns) where
     -- by columns theta is all frames but the first
-    pub theta-by-columns : Fine → PartOf s width 1 cols 0 rows
-    theta-by-columns f = let fine = rw told at f in rw (wide, told) (record { count = 1 + cols; formed = fine; there = omega arith; wide = omega arith })
+    pub theta_by_columns : Fine → PartOf s width 1 cols 0 rows
+    theta_by_columns f = let fine = rw told at f in rw (wide, told) (record { count = 1 + cols; formed = fine; there = omega arith; wide = omega arith })
 
-    pub by-columns-theta : (theta : List Float) → take (cols * rows) theta ≡ part 1 cols 0 rows → take (rows * cols) theta ≡ laid_out layout rows cols (feature s layout rows cols)
+    pub by_columns_theta : (theta : List Float) → take (cols * rows) theta ≡ part 1 cols 0 rows → take (rows * cols) theta ≡ laid_out layout rows cols (feature s layout rows cols)
     unfolding laid_out
-    by-columns-theta theta e = rw (mul_comm cols rows) at e ∙ rw (wide, told) (table-cong cols rows _ _ (λ k j h l. rw (zero-add j)))
+    by_columns_theta theta e = rw (mul_comm cols rows) at e ∙ rw (wide, told) (table_cong cols rows _ _ (λ k j h l. rw (zero-add j)))
 
     -- and the target is that first frame
-    pub target-by-columns : Fine → PartOf s width 0 1 0 rows
-    target-by-columns f = let fine = rw told at f in rw (wide, told) (record { count = 1 + cols; formed = fine; there = omega arith; wide = omega arith })
+    pub target_by_columns : Fine → PartOf s width 0 1 0 rows
+    target_by_columns f = let fine = rw told at f in rw (wide, told) (record { count = 1 + cols; formed = fine; there = omega arith; wide = omega arith })
 
-    pub by-columns-target : (t : List Float) → take (1 * rows) t ≡ part 0 1 0 rows → take rows t ≡ tab rows (target s layout rows cols)
-    by-columns-target t e = let n : 1 * rows ≡ rows = omega arith in rw n at e ∙ one_frame rows _ ∙ rw (wide, told) (tab-cong rows _ _ (λ j h. rw (zero-add j)))
+    pub by_columns_target : (t : List Float) → take (1 * rows) t ≡ part 0 1 0 rows → take rows t ≡ tab rows (target s layout rows cols)
+    by_columns_target t e = let n : 1 * rows ≡ rows = omega arith in rw n at e ∙ one_frame rows _ ∙ rw (wide, told) (tab_cong rows _ _ (λ j h. rw (zero-add j)))

@@ -8,7 +8,7 @@ use native.Mathlib.Omega.{arith}
 use lib.ListN.{length, set, take}
 use lib.Seq.{take_at}
 use lib.Ieee.{Float}
-use Rattle.steps.specs.Table.{tab, length-tab, tab-cong, table, filled, filled_more}
+use Rattle.steps.specs.Table.{tab, length_tab, tab_cong, table, filled, filled_more}
 use Rattle.hexdigits.specs.Hex.{Digits}
 use Rattle.hexdigits.specs.Parts.{part_digits}
 use Rattle.places.specs.declared.Layout.{Layout}
@@ -31,11 +31,11 @@ place_in frames each i h = let some = some_each frames each i h in ((div-lt_iff_
 
 -- number j of frame k of a part: its frame is one of the few, and it has its digits there
 module _ {s : List ℕ} {width first frames place each : ℕ} (part : PartOf s width first frames place each) (k j : ℕ) (h : k < frames) (l : j < each) where
-  pub part-few : FewFrames (first + k) width
-  part-few = record { frames = omega (arith, part.there, part.formed.few.frames); digits = part.formed.few.digits }
+  pub part_few : FewFrames (first + k) width
+  part_few = record { frames = omega (arith, part.there, part.formed.few.frames); digits = part.formed.few.digits }
 
-  pub part-has : Digits s (frame_at width (first + k) + 16 * (place + j)) 16
-  part-has = part_digits _ 16 (frame_has (first + k) part.formed (omega (arith, part.there))) (omega arith) (omega (arith, part.wide))
+  pub part_has : Digits s (frame_at width (first + k) + 16 * (place + j)) 16
+  part_has = part_digits _ 16 (frame_has (first + k) part.formed (omega (arith, part.there))) (omega arith) (omega (arith, part.wide))
 
 -- a loop that fills a slice in order: one more number, and the end
 module _ (f : ℕ → Float) (was now : List Float) where
@@ -44,13 +44,13 @@ module _ (f : ℕ → Float) (was now : List Float) where
 
   pub fill_end : (i n : ℕ) → now ≡ filled f i was → i ≤ n → n ≤ i → take n now ≡ tab n f
   unfolding filled
-  fill_end i n e h k = let q : i ≡ n = omega arith in rw (e, q) (take_at (tab n f) _ n (length-tab n f))
+  fill_end i n e h k = let q : i ≡ n = omega arith in rw (e, q) (take_at (tab n f) _ n (length_tab n f))
 
 -- one number of each of n frames, and n numbers of one frame, are a list
 pub one_each : (n : ℕ) (f : ℕ → ℕ → Float) → table n 1 f ≡ tab n (λ k. f k 0)
 unfolding table
-one_each n f = rw (mul-one n) (tab-cong n _ _ (λ k h. rw (div-one k, mod-one k)))
+one_each n f = rw (mul-one n) (tab_cong n _ _ (λ k h. rw (div-one k, mod-one k)))
 
 pub one_frame : (n : ℕ) (f : ℕ → ℕ → Float) → table 1 n f ≡ tab n (f 0)
 unfolding table
-one_frame n f = rw (one-mul n) (tab-cong n _ _ (λ j h. rw (div-eq_of_lt h, mod-eq_of_lt h)))
+one_frame n f = rw (one-mul n) (tab_cong n _ _ (λ j h. rw (div-eq_of_lt h, mod-eq_of_lt h)))

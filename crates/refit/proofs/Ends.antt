@@ -16,12 +16,12 @@ use Rattle.refit.proofs.Head.{scatter_head}
 
 module _ (n w : ℕ) (s : Solution) (r : Solved) where
   -- refused: what stands in the coefficients is not looked at
-  pub refused-out : (c t : ℕ) (y : List Float) → r ≡ Refused c → t ≡ term_at w c → gave r y ≡ s → refused t ≡ placed n w s
-  refused-out c t y e h q = rw (← q, e, h)
+  pub refused_out : (c t : ℕ) (y : List Float) → r ≡ Refused c → t ≡ term_at w c → gave r y ≡ s → refused t ≡ placed n w s
+  refused_out c t y e h q = rw (← q, e, h)
 
   -- done: the values at the head of the coefficients go to their terms
-  pub done-out : {m : ℕ} {x : List Float} (vs rest : List Float) → r ≡ Done → gave r vs ≡ s → m ≡ n → w < 2 ^ n → length vs ≡ ones w → x ≡ scatter m w (vs ++ rest) → solved x ≡ placed n w s
-  done-out vs rest e q i h l p = rw (p, i, scatter_head n w vs rest h l, ← q, e)
+  pub done_out : {m : ℕ} {x : List Float} (vs rest : List Float) → r ≡ Done → gave r vs ≡ s → m ≡ n → w < 2 ^ n → length vs ≡ ones w → x ≡ scatter m w (vs ++ rest) → solved x ≡ placed n w s
+  done_out vs rest e q i h l p = rw (p, i, scatter_head n w vs rest h l, ← q, e)
 
 -- the values of least squares, read at the head of what it left
 pub read_out : (r : Solved) (k : ℕ) (x b : List Float) {s : Solution} → b ≡ take k x → values k (told r x) ≡ s → gave r b ≡ s

@@ -8,8 +8,8 @@ use lib.ListN.{length, take, drop, length-append, length-take, length-drop}
 use lib.Seq.{take_at, drop_at}
 use lib.Ieee.{Float}
 use Rattle.steps.specs.Num.{at}
-use Rattle.steps.specs.Table.{tab, length-tab, length-table}
-use Rattle.steps.specs.Space.{part, with_part, length-with}
+use Rattle.steps.specs.Table.{tab, length_tab, length_table}
+use Rattle.steps.specs.Space.{part, with_part, length_with}
 use Rattle.steps.specs.Glue.{both_parts, read_behind}
 use Rattle.least.specs.Least.{least}
 use Rattle.rule.specs.Fits.{padded, by_least, problem, problem_of, matrix_of, solves}
@@ -34,22 +34,22 @@ length_head n l h = rw sub-zero (simp length-take (omega arith))
 -- a is made as QR's matrix at the head of a slice of just this room, b as its right-hand side behind it
 module _ {task : Task} {theta target : List Float} {w k : ℕ} (s : Counted task theta target w k) (ws : List Float) (l : length ws ≡ both task k)
     {a : List Float} (is-a : a ≡ qr_matrix task.rows task.cols w task.setup.lambda (stored task.layout task.rows task.cols theta)) where
-  length-a : length a ≡ cells task k
-  length-a = rw (s.count, is-a) (length-table _ _ _)
+  length_a : length a ≡ cells task k
+  length_a = rw (s.count, is-a) (length_table _ _ _)
 
-  pub room-behind : length (part (cells task k) (both task k) (head_in task k a ws)) ≡ length target + k
-  room-behind =
-      let e = length-with 0 (cells task k) a ws (omega arith) (omega arith) (length-a ∙ sym (sub-zero _)) in
+  pub room_behind : length (part (cells task k) (both task k) (head_in task k a ws)) ≡ length target + k
+  room_behind =
+      let e = length_with 0 (cells task k) a ws (omega arith) (omega arith) (length_a ∙ sym (sub-zero _)) in
       simp (length-take, length-drop) (omega (arith, s.sized.target_long))
 
   module _ {b : List Float} (is_b : b ≡ tab (length target + k) (padded (length target) (at target))) where
     joined : both_in task k a b ws ≡ a ++ b
-    joined = both_parts (cells task k) (task.rows + k) ws a b l length-a
+    joined = both_parts (cells task k) (task.rows + k) ws a b l length_a
 
     pub length_both : length (both_in task k a b ws) ≡ both task k
     length_both =
-        let e : length b ≡ task.rows + k = ap length is_b ∙ length-tab _ _ ∙ rw s.sized.target_long in
-        ap length joined ∙ length-append a b ∙ (let z : length a + length b ≡ both task k = omega (arith, length-a) in z)
+        let e : length b ≡ task.rows + k = ap length is_b ∙ length_tab _ _ ∙ rw s.sized.target_long in
+        ap length joined ∙ length-append a b ∙ (let z : length a + length b ≡ both task k = omega (arith, length_a) in z)
 
     -- the solve of what stands there is by least squares
     pub least_is : task.solver ≡ Qr
@@ -58,17 +58,17 @@ module _ {task : Task} {theta target : List Float} {w k : ℕ} (s : Counted task
     least_is is =
         rw is
         (ap₂ (λ (x y : List Float). least (task.rows + k) k x y)
-        (ap (take (cells task k)) joined ∙ take_at a b _ length-a ∙ is-a)
-        (ap (drop (cells task k)) joined ∙ drop_at a b _ length-a ∙ is_b)
+        (ap (take (cells task k)) joined ∙ take_at a b _ length_a ∙ is-a)
+        (ap (drop (cells task k)) joined ∙ drop_at a b _ length_a ∙ is_b)
         ∙ rw (s.sized.target_long, s.count))
 
 -- x is what a solve left in the head of a workspace: the k values stand in it behind the matrix
 module _ (task : Task) (k : ℕ) (ws x : List Float) (fits : both task k ≤ length ws) (kept : length x ≡ length (take (both task k - 0) ws)) where
-  length-x : length x ≡ both task k
-  length-x = kept ∙ length_head _ ws fits
+  length_x : length x ≡ both task k
+  length_x = kept ∙ length_head _ ws fits
 
-  pub space-kept : length (with_part 0 (both task k) x ws) ≡ length ws
-  space-kept = length-with 0 _ x ws (omega arith) fits (length-x ∙ sym (sub-zero _))
+  pub space_kept : length (with_part 0 (both task k) x ws) ≡ length ws
+  space_kept = length_with 0 _ x ws (omega arith) fits (length_x ∙ sym (sub-zero _))
 
   pub read : part (cells task k) (cells task k + k) (with_part 0 (both task k) x ws) ≡ take k (drop (cells task k) x)
-  read = read_behind (cells task k) (task.rows + k) k ws x length-x (omega arith)
+  read = read_behind (cells task k) (task.rows + k) k ws x length_x (omega arith)

@@ -24,29 +24,29 @@ module _ (n e : ℕ) (ws : List Float) (in_it : kept_size n ≤ e) (fits : e ≤
   lent : take (kept_size n) (take (e - 0) ws) ≡ take (kept_size n) ws
   lent = take-take (kept_size n) (e - 0) ws (omega arith)
 
-  pub from-lent : (damp : Float → Float) (w : ℕ) → w < 2 ^ n → from_kept damp n (take (e - 0) ws) w ≡ from_kept damp n ws w
-  from-lent damp w b = from_head damp n (take (e - 0) ws) ws w b lent
+  pub from_lent : (damp : Float → Float) (w : ℕ) → w < 2 ^ n → from_kept damp n (take (e - 0) ws) w ≡ from_kept damp n ws w
+  from_lent damp w b = from_head damp n (take (e - 0) ws) ws w b lent
 
-  pub head-left : (x : List Float) → length x ≡ length (take (e - 0) ws) → take (kept_size n) x ≡ take (kept_size n) (take (e - 0) ws) → take (kept_size n) (with_part 0 e x ws) ≡ take (kept_size n) ws
+  pub head_left : (x : List Float) → length x ≡ length (take (e - 0) ws) → take (kept_size n) x ≡ take (kept_size n) (take (e - 0) ws) → take (kept_size n) (with_part 0 e x ws) ≡ take (kept_size n) ws
   unfolding with_part
-  head-left x long same =
+  head_left x long same =
       let room : kept_size n ≤ length x = omega (arith, long, length-take-le (e - 0) ws (omega arith)) in
       take-append-le (kept_size n) x (drop (e - 0) ws) room ∙ same ∙ lent
 
 -- what the first pass left is kept
 module _ (task : Task) (theta target : List Float) where
-  pub kept-now : (sums rest : List Float) → length sums ≡ kept_size task.cols
+  pub kept_now : (sums rest : List Float) → length sums ≡ kept_size task.cols
       → sums ≡ kept_sums task.cols (gram (matrix_of task theta) task.rows) (moment (matrix_of task theta) (at target) task.rows) → Kept task theta target (sums ++ rest)
-  kept-now sums rest long e = record { sums = λ not. take_at sums rest (kept_size task.cols) long ∙ e }
+  kept_now sums rest long e = record { sums = λ not. take_at sums rest (kept_size task.cols) long ∙ e }
 
   pub kept_on : (ws ws' : List Float) → take (kept_size task.cols) ws' ≡ take (kept_size task.cols) ws → Kept task theta target ws → Kept task theta target ws'
   kept_on ws ws' e k = record { sums = λ not. e ∙ k.sums not }
 
   -- and a solve from it, by a solver that solves so, is that of the support's columns
-  pub kept-is : {d : Damping} → FromSums task.solver task.setup.lambda d → (ws : List Float) (w : ℕ) → Kept task theta target ws → w < 2 ^ task.cols
+  pub kept_is : {d : Damping} → FromSums task.solver task.setup.lambda d → (ws : List Float) (w : ℕ) → Kept task theta target ws → w < 2 ^ task.cols
       → from_kept (damps d) task.cols ws w ≡ (problem_of task theta target).solve w
   unfolding problem
-  kept-is {d} from ws w k b =
+  kept_is {d} from ws w k b =
       rw (from.solve (at target) task.rows) (kept_solves (damps d) task.cols (matrix_of task theta) (at target) task.rows ws w b (k.sums from.not_qr))
 
   -- by least squares nothing is kept

@@ -38,14 +38,14 @@ module _ {task : Task} {theta target : List Float} {w k : ℕ} (s : Counted task
   area = let tall : task.rows + k ≤ 4160 = omega (arith, narrow) in omega (arith, mul-le-mul tall narrow)
 
   -- what QR's matrix is taken from
-  pub columns-in : Within theta task.rows task.cols w
-  columns-in = record { few_columns = s.sized.limited.few_cols; few_rows = s.sized.limited.few_rows; matrix = s.sized.theta_long; terms = s.within }
+  pub columns_in : Within theta task.rows task.cols w
+  columns_in = record { few_columns = s.sized.limited.few_cols; few_rows = s.sized.limited.few_rows; matrix = s.sized.theta_long; terms = s.within }
 
   -- what a fit's workspace of n numbers has room for
   module _ {n : ℕ} (room : task_need task ≤ n) where
     -- the kept sums and a block of them
-    pub block-fits : {d : Damping} → FromSums task.solver task.setup.lambda d → kept_size task.cols + k * k ≤ n
-    block-fits from = omega (arith, from.need task.rows task.cols, mul-le-mul few few)
+    pub block_fits : {d : Damping} → FromSums task.solver task.setup.lambda d → kept_size task.cols + k * k ≤ n
+    block_fits from = omega (arith, from.need task.rows task.cols, mul-le-mul few few)
 
     -- the matrix of least squares and its right-hand side
     pub least_fits : task.solver ≡ Qr → both task k ≤ n

@@ -57,9 +57,9 @@ abbrev pub refuse_if : Bool → Refusal → Answer → Answer
 refuse_if t w next = cond t (Refused w) next
 
 -- what a call of these sizes leaves or answers: the new where they are accepted, else the old
-abbrev pub if-done {ℓ} : {A : Type ℓ} → Answer → A → A → A
-if-done Done new old = new
-if-done (Refused w) new old = old
+abbrev pub if_done {ℓ} : {A : Type ℓ} → Answer → A → A → A
+if_done Done new old = new
+if_done (Refused w) new old = old
 
 -- accepted sizes leave the answer to the solve
 abbrev pub and_then : Answer → Answer → Answer

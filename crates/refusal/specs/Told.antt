@@ -1,7 +1,7 @@
 -- What a solver answers inside, as the end of its loop. Assumes nothing.
 use Rattle.std.specs.Prelude.{◌≡◌, refl, ℕ, ◌+◌, ◌≤◌, ◌<◌}
 use Rattle.std.proofs.Common.{sym}
-use Rattle.steps.specs.Loops.{Way, going, final, way, way-goes, way-stops}
+use Rattle.steps.specs.Loops.{Way, going, final, way, way_goes, way_stops}
 use Rattle.refusal.specs.Answers.{told, ended, answered}
 use Rattle.refusal.specs.declared.Refusal.{Refusal}
 use Rattle.refusal.specs.declared.Solved.{Solved}
@@ -18,8 +18,8 @@ final_told (Refused c) x = refl
 
 -- a loop goes on after a turn that told it is done, and ends at one that told it refused
 module _ {A : Type 0} (f : ℕ → A → Way A) (lo i : ℕ) (s t u : A) (r : Solved) (up : lo ≤ i) (went : way f lo i s ≡ going t) (turn : told r u ≡ f i t) where
-  pub told-goes : r ≡ Done → way f lo (i + 1) s ≡ going u
-  told-goes e = way-goes f lo i s t u up went (sym (rw e at turn))
+  pub told_goes : r ≡ Done → way f lo (i + 1) s ≡ going u
+  told_goes e = way_goes f lo i s t u up went (sym (rw e at turn))
 
-  pub told-stops : (hi : ℕ) {c : ℕ} → i < hi → r ≡ Refused c → told r u ≡ way f lo hi s
-  told-stops hi {c} h e = rw e (sym (way-stops f lo i hi c s t u up h went (sym (rw e at turn))))
+  pub told_stops : (hi : ℕ) {c : ℕ} → i < hi → r ≡ Refused c → told r u ≡ way f lo hi s
+  told_stops hi {c} h e = rw e (sym (way_stops f lo i hi c s t u up h went (sym (rw e at turn))))

@@ -64,14 +64,14 @@ module _ (task : Task) (theta target : List Float) (last : ℕ) (cs : List Float
   unfolding round
   looked past = ap (look P cs past) (sym found)
 
-  pub turn-empty : {x : List Float} → w.0 ≡ 0 → x ≡ cleared task.cols cs → Turned P last cs Empty x
+  pub turn_empty : {x : List Float} → w.0 ≡ 0 → x ≡ cleared task.cols cs → Turned P last cs Empty x
   unfolding look problem
-  turn-empty z e = record { rule = λ past i. looked past ∙ rw (eq-eqb w.0 0 z, zeroed task.cols cs long e) }
+  turn_empty z e = record { rule = λ past i. looked past ∙ rw (eq-eqb w.0 0 z, zeroed task.cols cs long e) }
 
   module _ (some : w.0 ≢ 0) where
-    pub turn-settled : w.0 ≡ last → Turned P last cs Settled cs
+    pub turn_settled : w.0 ≡ last → Turned P last cs Settled cs
     unfolding look
-    turn-settled e = record { rule = λ past i. looked past ∙ rw (ne_eqb w.0 0 some, eq-eqb w.0 (latest past) (e ∙ i)) }
+    turn_settled e = record { rule = λ past i. looked past ∙ rw (ne_eqb w.0 0 some, eq-eqb w.0 (latest past) (e ∙ i)) }
 
     -- the solve over w, whose answer was a, and which left y
     module _ (other : w.0 ≢ last) (a : Spread) (y : List Float) (solve : OverSupport task theta target w.0 a y) where
@@ -79,18 +79,18 @@ module _ (task : Task) (theta target : List Float) (last : ℕ) (cs : List Float
       unfolding look
       solving past i = looked past ∙ rw (ne_eqb w.0 0 some, ne_eqb w.0 (latest past) (λ q. other (q ∙ sym i)))
 
-      refused-ends : (t : Term) (x : List Float) → RefusedTerm w.0 (P.solve w.0) t → x ≡ zeros task.cols → (past : List ℕ)
+      refused_ends : (t : Term) (x : List Float) → RefusedTerm w.0 (P.solve w.0) t → x ≡ zeros task.cols → (past : List ℕ)
           → refit P past w.0 (P.solve w.0) ≡ done (RefitRefused t) x (support P cs ∷ past)
       unfolding refit problem
-      refused-ends t x r z past = rw (← found, r.refuses, ← r.term, z) refl
+      refused_ends t x r z past = rw (← found, r.refuses, ← r.term, z) refl
 
-      pub turn-refused : (t : Term) (x : List Float) → a ≡ A.Refused t → length y ≡ task.cols → x ≡ cleared task.cols y → Turned P last cs (Refused t) x
-      turn-refused t x e h i =
-          let at-term = refused_placed a task.cols w.0 t (P.solve w.0) y e solve in
-          record { rule = λ past l. solving past l ∙ refused-ends t x at-term (zeroed task.cols y h i) past }
+      pub turn_refused : (t : Term) (x : List Float) → a ≡ A.Refused t → length y ≡ task.cols → x ≡ cleared task.cols y → Turned P last cs (Refused t) x
+      turn_refused t x e h i =
+          let at_term = refused_placed a task.cols w.0 t (P.solve w.0) y e solve in
+          record { rule = λ past l. solving past l ∙ refused_ends t x at_term (zeroed task.cols y h i) past }
 
-      pub turn-again : a ≡ A.Done → Turned P last cs (Again w) y
+      pub turn_again : a ≡ A.Done → Turned P last cs (Again w) y
       unfolding refit problem
-      turn-again t =
+      turn_again t =
           let p = done_placed a task.cols w.0 (P.solve w.0) y t solve in
           record { rule = λ past i. solving past i ∙ ap (refit P past w.0) p.solves ∙ ap (λ (x : List Float). going x (w.0 ∷ past)) (sym p.puts) }

@@ -68,11 +68,11 @@ module _ (P : Problem) (j : ℕ) where
         over : {t : Stop} {ws : List ℕ} {k : ℕ} → rounds P (suc r) ≡ done t x ws → k ≡ length ws → CameTo P m j t k d' x
         over {ws = ws} e i = came_to P m j ws (stays P (suc r) m e l) i (seen_next ∙ sym (dropped_stays P j (suc r) m e l))
 
-        pub ends-empty : Turned P last cs T.Empty x → CameTo P m j S.Empty r d' x
-        ends-empty u = over (next T.Empty u) g.count_is
+        pub ends_empty : Turned P last cs T.Empty x → CameTo P m j S.Empty r d' x
+        ends_empty u = over (next T.Empty u) g.count_is
 
-        pub ends-settled : Turned P last cs T.Settled x → CameTo P m j S.Settled r d' x
-        ends-settled u = over (next T.Settled u) g.count_is
+        pub ends_settled : Turned P last cs T.Settled x → CameTo P m j S.Settled r d' x
+        ends_settled u = over (next T.Settled u) g.count_is
 
-        pub ends-refused : (t : Term) → Turned P last cs (T.Refused t) x → CameTo P m j (S.RefitRefused t) (r + 1) d' x
-        ends-refused t u = over (next (T.Refused t) u) (add-one r ∙ ap suc g.count_is)
+        pub ends_refused : (t : Term) → Turned P last cs (T.Refused t) x → CameTo P m j (S.RefitRefused t) (r + 1) d' x
+        ends_refused t u = over (next (T.Refused t) u) (add-one r ∙ ap suc g.count_is)

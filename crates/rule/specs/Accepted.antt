@@ -31,8 +31,8 @@ module _ {task : Task} {theta target cs cs' w w' : List Float} where
 
   -- a call that answered a report
   module _ {report : Report} (call : FitCall task theta target cs cs' w w' (F.Fit report)) where
-    pub was-ready : Ready task theta target cs w
-    was-ready = ready (sym call.judged ∙ reported_done call.sizes _ report call.answer)
+    pub was_ready : Ready task theta target cs w
+    was_ready = ready (sym call.judged ∙ reported_done call.sizes _ report call.answer)
 
-    pub report-is : report ≡ report_of (fit_of task theta target)
-    report-is = cc (answers was-ready call)
+    pub report_is : report ≡ report_of (fit_of task theta target)
+    report_is = cc (answers was_ready call)

@@ -1,7 +1,7 @@
 -- What the fits answer and leave. Assumes nothing.
 use Rattle.std.specs.Prelude.{◌≡◌, List, length, Float}
 use Rattle.steps.specs.Space.{cleared}
-use Rattle.refusal.specs.Answers.{if-done}
+use Rattle.refusal.specs.Answers.{if_done}
 use Rattle.refusal.specs.declared.Answer.{Answer}
 use Rattle.refusal.specs.declared.Answer.TheVariants.{Done, Refused}
 use Rattle.rule.specs.Rule.{Fit}
@@ -27,5 +27,5 @@ pub record FitCall (task : Task) (theta target cs cs' w w' : List Float) (r : Fi
   pub sizes : Answer
   pub judged : sizes ≡ fit_sizes task (length theta) (length target) (length cs) (length w)
   pub answer : r ≡ fitted sizes (fit_of task theta target)
-  pub coeffs : cs' ≡ if-done sizes (fit_of task theta target).coeffs cs
-  pub space : w' ≡ if-done sizes (cleared (task_need task) w) w
+  pub coeffs : cs' ≡ if_done sizes (fit_of task theta target).coeffs cs
+  pub space : w' ≡ if_done sizes (cleared (task_need task) w) w

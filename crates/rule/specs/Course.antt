@@ -12,9 +12,9 @@ use Rattle.rule.specs.Rule.{Problem, State, going, done, latest, zeros, support,
 
 module _ (P : Problem) where
   -- what holds of every report holds of the fit
-  pub of-report : (G : Fit → Type 0) → ((t : Stop) (cs : List Float) (ws : List ℕ) → G (reported P t cs ws)) → (r : ℕ) → G (fit P r)
+  pub of_report : (G : Fit → Type 0) → ((t : Stop) (cs : List Float) (ws : List ℕ) → G (reported P t cs ws)) → (r : ℕ) → G (fit P r)
   unfolding fit finish
-  of-report G h r = go (rounds P r)
+  of_report G h r = go (rounds P r)
     where
       go : (s : State) → G (finish P s)
       go (going cs ws) = h _ _ _
@@ -27,12 +27,12 @@ module _ (P : Problem) where
   -- I, of the number of rounds and the state after them: a case for each thing that can happen, with what is known then
   pub record Course (I : ℕ → State → Type 0) : Type 0 where
     pub nothing : lacking ≡ true → I 0 (done NoData (zeros P.cols) [])
-    pub refused-first : lacking ≡ false → (c : ℕ) → P.whole ≡ refused c → I 0 (first P (refused c))
+    pub refused_first : lacking ≡ false → (c : ℕ) → P.whole ≡ refused c → I 0 (first P (refused c))
     pub begins : lacking ≡ false → (vs : List Float) → P.whole ≡ solved vs → I 0 (first P (solved vs))
     pub rests : (r : ℕ) (t : Stop) (cs : List Float) (ws : List ℕ) → I r (done t cs ws) → I (suc r) (done t cs ws)
     pub empties : (r : ℕ) (cs : List Float) (ws : List ℕ) → I r (going cs ws) → I (suc r) (done Empty (zeros P.cols) ws)
     pub settles : (r : ℕ) (cs : List Float) (ws : List ℕ) → I r (going cs ws) → support P cs ≢ 0 → support P cs ≡ latest ws → I (suc r) (done Settled cs ws)
-    pub refused-later : (r : ℕ) (cs : List Float) (ws : List ℕ) → I r (going cs ws) → support P cs ≢ 0 → support P cs ≢ latest ws
+    pub refused_later : (r : ℕ) (cs : List Float) (ws : List ℕ) → I r (going cs ws) → support P cs ≢ 0 → support P cs ≢ latest ws
         → (c : ℕ) → P.solve (support P cs) ≡ refused c → I (suc r) (refit P ws (support P cs) (refused c))
     pub refits : (r : ℕ) (cs : List Float) (ws : List ℕ) → I r (going cs ws) → support P cs ≢ 0 → support P cs ≢ latest ws
         → (vs : List Float) → P.solve (support P cs) ≡ solved vs → I (suc r) (refit P ws (support P cs) (solved vs))
@@ -45,7 +45,7 @@ module _ (P : Problem) where
         (λ k. either (I 0) (eqb P.cols 0) _ _ (λ t. c.nothing (rw (k, t) refl)) (λ l. solving (rw (k, l) refl) P.whole refl))
       where
         solving : lacking ≡ false → (a : Solution) → P.whole ≡ a → I 0 (first P a)
-        solving l (refused k) e = c.refused-first l k e
+        solving l (refused k) e = c.refused_first l k e
         solving l (solved vs) e = c.begins l vs e
 
     step : (r : ℕ) (s : State) → I r s → I (suc r) (round P s)
@@ -60,21 +60,21 @@ module _ (P : Problem) where
         w = support P cs
 
         solving : w ≢ 0 → w ≢ latest ws → (a : Solution) → P.solve w ≡ a → I (suc r) (refit P ws w a)
-        solving z l (refused k) e = c.refused-later r cs ws i z l k e
+        solving z l (refused k) e = c.refused_later r cs ws i z l k e
         solving z l (solved vs) e = c.refits r cs ws i z l vs e
 
-    pub after-rounds : (r : ℕ) → I r (rounds P r)
+    pub after_rounds : (r : ℕ) → I r (rounds P r)
     unfolding rounds
-    after-rounds zero = begun
-    after-rounds (suc r) = step r (rounds P r) (after-rounds r)
+    after_rounds zero = begun
+    after_rounds (suc r) = step r (rounds P r) (after_rounds r)
 
     -- and so of the fit: rounds used up, where the last look gives the stop, or done
-    pub of-fit : (G : Fit → Type 0) (r : ℕ)
+    pub of_fit : (G : Fit → Type 0) (r : ℕ)
         → ((cs : List Float) (ws : List ℕ) → I r (going cs ws) → G (reported P (last_stop P cs ws) cs ws))
         → ((t : Stop) (cs : List Float) (ws : List ℕ) → I r (done t cs ws) → G (reported P t cs ws))
         → G (fit P r)
     unfolding fit finish
-    of-fit G r out over = go (rounds P r) (after-rounds r)
+    of_fit G r out over = go (rounds P r) (after_rounds r)
       where
         go : (s : State) → I r s → G (finish P s)
         go (going cs ws) i = out cs ws i

@@ -15,7 +15,7 @@ use Rattle.rule.specs.Tasks.{with_limit}
 use Rattle.rule.specs.Fits.{keeps, clears, problem, fit_by, matrix_of, problem_of, fit_of}
 use Rattle.rule.specs.Sizes.{task_need, Limited, Sized, Ready}
 use Rattle.rule.specs.Calls.{report_of, FitCall}
-use Rattle.rule.specs.Accepted.{answers, leaves, was-ready, report-is}
+use Rattle.rule.specs.Accepted.{answers, leaves, was_ready, report_is}
 use Rattle.rule.specs.Stable.{Falling}
 use Rattle.rule.specs.Promises.{stable, bounds}
 
@@ -36,8 +36,8 @@ module _ (task : Task) (theta target : List Float) where
   Call limit cs cs' w w' answer = FitCall (with_limit task limit) theta target cs cs' w w' answer
 
   -- the supports of the refits that the rule makes within a limit, the newest first
-  abbrev pub refits-of : ℕ → List ℕ
-  refits-of limit = refitted (problem_of task theta target) limit
+  abbrev pub refits_of : ℕ → List ℕ
+  refits_of limit = refitted (problem_of task theta target) limit
 
   -- the fit of the rule
   abbrev rule : ℕ → Fit
@@ -51,25 +51,25 @@ module _ (task : Task) (theta target : List Float) where
       → (answer ≡ F.Fit report) × (ds' ≡ cs')
   unfolding fit_by problem keeps clears matrix_of
   calls_stable {r} {m} {report} {ds} {v} one stops more permitted long room two =
-      let a = was-ready one in
+      let a = was_ready one in
       let limited : Limited 64 4096 (with_limit task m) = record { few_cols = a.sized.limited.few_cols; few_rows = a.sized.limited.few_rows; few_rounds = permitted } in
       let sized : Sized (with_limit task m) theta target = record { limited = limited; theta_long = a.sized.theta_long; target_long = a.sized.target_long } in
       let b : Ready (with_limit task m) theta target ds v = record { sized = sized; coeffs_long = long; space_long = room } in
-      let told : report ≡ report_of (rule r) = report-is one in
+      let told : report ≡ report_of (rule r) = report_is one in
       let same : rule m ≡ rule r = (stable task (matrix_of task theta) (at target)).steady r m more (λ e. stops (ap (λ p. p.stop) told ∙ e)) in
       (answers b two ∙ ap (λ f. F.Fit (report_of f)) same ∙ ap F.Fit (sym told), leaves b two ∙ ap (λ f. f.coeffs) same ∙ sym (leaves a one))
 
   -- for a threshold above zero
   module _ (above : T (lt +zero task.setup.threshold)) {limit : ℕ} {cs cs' w w' : List Float} {report : Report} (call : Call limit cs cs' w w' (F.Fit report)) where
     -- each refit uses a strict subset of the columns of the one before, and there are no more than columns or rounds
-    pub calls-bounded : Few (refits-of limit) task.cols limit report
+    pub calls_bounded : Few (refits_of limit) task.cols limit report
     unfolding fit_by problem keeps clears matrix_of
-    calls-bounded =
+    calls_bounded =
         let b = bounds task (matrix_of task theta) (at target) above in
-        let count : report.refits ≡ (rule limit).refits = ap (λ p. p.refits) (report-is call) in
+        let count : report.refits ≡ (rule limit).refits = ap (λ p. p.refits) (report_is call) in
         record { counted = count ∙ b.counted limit; falling = b.falling limit; few_cols = rw count (b.few_cols limit); few_rounds = rw count (b.few_rounds limit) }
 
     -- a limit of columns plus one, or more, always finishes without running out
-    pub calls-finish : task.cols + 1 ≤ limit → report.stop ≢ OutOfRounds
+    pub calls_finish : task.cols + 1 ≤ limit → report.stop ≢ OutOfRounds
     unfolding fit_by problem keeps clears matrix_of
-    calls-finish h e = (bounds task (matrix_of task theta) (at target) above).finishes limit h (sym (ap (λ p. p.stop) (report-is call)) ∙ e)
+    calls_finish h e = (bounds task (matrix_of task theta) (at target) above).finishes limit h (sym (ap (λ p. p.stop) (report_is call)) ∙ e)

@@ -10,7 +10,7 @@ use Rattle.rule.specs.Tasks.{laid}
 use Rattle.rule.specs.Fits.{problem, fit_by, matrix_of, fit_of}
 use Rattle.rule.specs.Sizes.{limits, lengths, fit_sizes}
 use Rattle.rule.specs.Calls.{FitCall}
-use Rattle.rule.specs.SameFit.{fit-entries}
+use Rattle.rule.specs.SameFit.{fit_entries}
 
 -- theta: the matrix e as the task says that it is stored
 abbrev pub theta_of : Task → Entry → List Float
@@ -19,7 +19,7 @@ theta_of task e = laid_out task.layout task.rows task.cols e
 -- however a matrix is stored, its fit is the fit of its entries
 pub fit_stored : (task : Task) (e : Entry) (target : List Float) → fit_of task (theta_of task e) target ≡ fit_by task e (at target)
 unfolding matrix_of
-fit_stored task e target = fit-entries task _ e (at target) (λ i j a b. stored_found task.layout task.rows task.cols e i j a b)
+fit_stored task e target = fit_entries task _ e (at target) (λ i j a b. stored_found task.layout task.rows task.cols e i j a b)
 
 -- so for every matrix any two layouts give the same fit
 pub layouts_alike : (task : Task) (l m : Layout) (e : Entry) (target : List Float)

@@ -2,11 +2,11 @@
 use Rattle.std.specs.Prelude.{◌≡◌, List, ℕ, Float}
 use Rattle.steps.specs.Num.{+zero, at}
 use Rattle.steps.specs.Cond.{either}
-use Rattle.steps.specs.Table.{tab-replicate}
+use Rattle.steps.specs.Table.{tab_replicate}
 use Rattle.refusal.specs.Answers.{solved}
 use Rattle.support.specs.Word.{has, place}
 use Rattle.rule.specs.Rule.{Problem, State, going, done, zeros, support, scatter, refit, first, pruned, rounds, reported, fit, coeffs_of}
-use Rattle.rule.specs.Course.{Course, after-rounds, of-fit}
+use Rattle.rule.specs.Course.{Course, after_rounds, of_fit}
 use Rattle.rule.specs.Rounded.{Rounded, tab_column}
 
 -- Q of each number of a list
@@ -14,16 +14,16 @@ abbrev Each : (Float → Type 0) → List Float → Type 0
 Each Q cs = (i : ℕ) → Q (at cs i)
 
 module _ (P : Problem) {Q : Float → Type 0} (made : Rounded Q) where
-  zeros-each : (n : ℕ) → Each Q (zeros n)
-  zeros-each n = rw (← tab-replicate n +zero) (tab_column made n (λ j. +zero) (λ j. made.nought)).each
+  zeros_each : (n : ℕ) → Each Q (zeros n)
+  zeros_each n = rw (← tab_replicate n +zero) (tab_column made n (λ j. +zero) (λ j. made.nought)).each
 
-  scatter-each : (w : ℕ) (vs : List Float) → Each Q vs → Each Q (scatter P.cols w vs)
+  scatter_each : (w : ℕ) (vs : List Float) → Each Q vs → Each Q (scatter P.cols w vs)
   unfolding scatter
-  scatter-each w vs h = (tab_column made P.cols _ (λ j. either Q (has w j) (at vs (place w j)) +zero (λ t. h (place w j)) (λ t. made.nought))).each
+  scatter_each w vs h = (tab_column made P.cols _ (λ j. either Q (has w j) (at vs (place w j)) +zero (λ t. h (place w j)) (λ t. made.nought))).each
 
-  pruned-each : (cs : List Float) → Each Q cs → Each Q (pruned P cs)
+  pruned_each : (cs : List Float) → Each Q cs → Each Q (pruned P cs)
   unfolding pruned
-  pruned-each cs h = (tab_column made P.cols _ (λ j. either Q (P.clears j (at cs j)) +zero (at cs j) (λ t. made.nought) (λ t. h j))).each
+  pruned_each cs h = (tab_column made P.cols _ (λ j. either Q (P.clears j (at cs j)) +zero (at cs j) (λ t. made.nought) (λ t. h j))).each
 
   module _ (whole : (vs : List Float) → P.whole ≡ solved vs → Each Q vs) (part : (w : ℕ) (vs : List Float) → P.solve w ≡ solved vs → Each Q vs) where
     -- of the coefficients after each round
@@ -34,23 +34,23 @@ module _ (P : Problem) {Q : Float → Type 0} (made : Rounded Q) where
     course : Course P (λ r. Now)
     unfolding Now first refit
     course = record {
-      nothing = λ e. zeros-each P.cols;
-      refused-first = λ e c q. zeros-each P.cols;
+      nothing = λ e. zeros_each P.cols;
+      refused_first = λ e c q. zeros_each P.cols;
       begins = λ e vs q. whole vs q;
       rests = λ r t cs ws i. i;
-      empties = λ r cs ws i. zeros-each P.cols;
+      empties = λ r cs ws i. zeros_each P.cols;
       settles = λ r cs ws i z e. i;
-      refused-later = λ r cs ws i z l c q. zeros-each P.cols;
-      refits = λ r cs ws i z l vs q. scatter-each (support P cs) vs (part (support P cs) vs q);
+      refused_later = λ r cs ws i z l c q. zeros_each P.cols;
+      refits = λ r cs ws i z l vs q. scatter_each (support P cs) vs (part (support P cs) vs q);
     }
 
-    pub made-coeffs : (r : ℕ) → Each Q (fit P r).coeffs
+    pub made_coeffs : (r : ℕ) → Each Q (fit P r).coeffs
     unfolding reported Now
-    made-coeffs r = of-fit P course (λ f. Each Q f.coeffs) r (λ cs ws i. pruned-each cs i) (λ t cs ws i. pruned-each cs i)
+    made_coeffs r = of_fit P course (λ f. Each Q f.coeffs) r (λ cs ws i. pruned_each cs i) (λ t cs ws i. pruned_each cs i)
 
-    pub made-rounds : (r : ℕ) → Each Q (coeffs_of (rounds P r))
+    pub made_rounds : (r : ℕ) → Each Q (coeffs_of (rounds P r))
     unfolding Now
-    made-rounds r = go (rounds P r) (after-rounds P course r)
+    made_rounds r = go (rounds P r) (after_rounds P course r)
       where
         go : (s : State) → Now s → Each Q (coeffs_of s)
         go (going cs ws) i = i

@@ -16,14 +16,14 @@ use Rattle.rule.specs.declared.Stop.TheVariants.{Settled, OutOfRounds}
 use Rattle.rule.specs.Rule.{Problem, Fit, done, zeros, rounds, refitted, coeffs_of}
 use Rattle.rule.specs.Fits.{keeps, problem, problem_by, fit_by}
 use Rattle.rule.specs.Threshold.{zero_below, nan_below}
-use Rattle.rule.specs.LastLook.{SettlesNext, settled-next, settled_before}
-use Rattle.rule.specs.Refuses.{columned, RefusedAt, refused-at}
-use Rattle.rule.specs.Stable.{Steady, steady, Bounded, ZeroKept, refits-few}
+use Rattle.rule.specs.LastLook.{SettlesNext, settled_next, settled_before}
+use Rattle.rule.specs.Refuses.{columned, RefusedAt, refused_at}
+use Rattle.rule.specs.Stable.{Steady, steady, Bounded, ZeroKept, refits_few}
 use Rattle.rule.specs.Shrinking.{bounded}
-use Rattle.rule.specs.Endings.{Zeroed, ends-with-zeros, no_nan, kept-lt, kept_rule}
+use Rattle.rule.specs.Endings.{Zeroed, ends_with_zeros, no_nan, kept_lt, kept_rule}
 use Rattle.rule.specs.Rounded.{Rounded, in_format}
-use Rattle.rule.specs.Values.{solved-column}
-use Rattle.rule.specs.Made.{made-coeffs, made-rounds}
+use Rattle.rule.specs.Values.{solved_column}
+use Rattle.rule.specs.Made.{made_coeffs, made_rounds}
 
 -- of any task, matrix and target
 module _ (task : Task) (e : Entry) (t : ℕ → Float) where
@@ -47,39 +47,39 @@ module _ (task : Task) (e : Entry) (t : ℕ → Float) where
   bounds h = bounded P (λ j c k. absurd (subst T (zero_below setup.threshold h) k))
 
   -- a fit that is Settled, by the look of a round or by the last look, has settled after one round more, with the same report
-  pub settles-next : f.stop ≡ Settled → SettlesNext P setup.max_iter
+  pub settles_next : f.stop ≡ Settled → SettlesNext P setup.max_iter
   unfolding fit_by
-  settles-next = settled-next P setup.max_iter
+  settles_next = settled_next P setup.max_iter
 
   -- and one that would have settled in the round after the last is Settled by the last look
-  pub settles-before : {cs : List Float} {ws : List ℕ} → rounds P (suc setup.max_iter) ≡ done Settled cs ws → f.stop ≡ Settled
+  pub settles_before : {cs : List Float} {ws : List ℕ} → rounds P (suc setup.max_iter) ≡ done Settled cs ws → f.stop ≡ Settled
   unfolding fit_by
-  settles-before = settled_before P setup.max_iter
+  settles_before = settled_before P setup.max_iter
 
   -- a refused solve ends with zeros, and so do no data and an empty support
-  pub zeros-left : Zeroed f.stop → f.coeffs ≡ zeros task.cols
+  pub zeros_left : Zeroed f.stop → f.coeffs ≡ zeros task.cols
   unfolding fit_by problem
-  zeros-left z = ends-with-zeros P setup.max_iter z
+  zeros_left z = ends_with_zeros P setup.max_iter z
 
   -- only OutOfRounds can leave a NaN among the coefficients
-  pub numbers-left : f.stop ≢ OutOfRounds → (j : ℕ) → j < task.cols → at f.coeffs j ≢ nan
+  pub numbers_left : f.stop ≢ OutOfRounds → (j : ℕ) → j < task.cols → at f.coeffs j ≢ nan
   unfolding fit_by problem keeps
-  numbers-left k j l = no_nan P j (nan_below setup.threshold) setup.max_iter k l
+  numbers_left k j l = no_nan P j (nan_below setup.threshold) setup.max_iter k l
 
   -- a solve that refused did so at a term of theta, and after a refit at one of the support that was refitted
-  pub refused-term : task.cols ≤ 64 → RefusedAt task.cols f.stop (refitted P setup.max_iter)
+  pub refused_term : task.cols ≤ 64 → RefusedAt task.cols f.stop (refitted P setup.max_iter)
   unfolding fit_by problem
-  refused-term few = refused-at P (columned task e t) few setup.max_iter
+  refused_term few = refused_at P (columned task e t) few setup.max_iter
 
   -- never more refits than rounds, at any threshold
-  pub refits-at-most : f.refits ≤ setup.max_iter
+  pub refits_at_most : f.refits ≤ setup.max_iter
   unfolding fit_by
-  refits-at-most = refits-few P setup.max_iter
+  refits_at_most = refits_few P setup.max_iter
 
   -- the kept word is of the task's terms
-  pub kept-below : f.kept < 2 ^ task.cols
+  pub kept_below : f.kept < 2 ^ task.cols
   unfolding fit_by problem
-  kept-below = kept-lt P setup.max_iter
+  kept_below = kept_lt P setup.max_iter
 
   -- bit j is one exactly if j is below n_cols and the final |c(j)| is at least the threshold
   pub kept_word : (j : ℕ) → has f.kept j ≡ (ltb j task.cols && le setup.threshold (abs_of (at f.coeffs j)))
@@ -88,22 +88,22 @@ module _ (task : Task) (e : Entry) (t : ℕ → Float) where
 
   -- what holds of the target's numbers and of every result of an operation holds of each coefficient
   module _ {Q : Float → Type 0} (made : Rounded Q) (h : (i : ℕ) → Q (t i)) where
-    whole-made : (vs : List Float) → P.whole ≡ solved vs → (j : ℕ) → Q (at vs j)
+    whole_made : (vs : List Float) → P.whole ≡ solved vs → (j : ℕ) → Q (at vs j)
     unfolding problem
-    whole-made vs q = (solved-column made task.solver setup.lambda t task.rows task.cols e vs h q).each
+    whole_made vs q = (solved_column made task.solver setup.lambda t task.rows task.cols e vs h q).each
 
-    part-made : (w : ℕ) (vs : List Float) → P.solve w ≡ solved vs → (j : ℕ) → Q (at vs j)
+    part_made : (w : ℕ) (vs : List Float) → P.solve w ≡ solved vs → (j : ℕ) → Q (at vs j)
     unfolding problem
-    part-made w vs q = (solved-column made task.solver setup.lambda t task.rows (ones w) (columns task.cols w e) vs h q).each
+    part_made w vs q = (solved_column made task.solver setup.lambda t task.rows (ones w) (columns task.cols w e) vs h q).each
 
-    pub coefficients-made : (j : ℕ) → Q (at f.coeffs j)
+    pub coefficients_made : (j : ℕ) → Q (at f.coeffs j)
     unfolding fit_by
-    coefficients-made = made-coeffs P made whole-made part-made setup.max_iter
+    coefficients_made = made_coeffs P made whole_made part_made setup.max_iter
 
     -- and of each that a look sees, and the last pass
-    pub looked-made : (r j : ℕ) → Q (at (coeffs_of (rounds P r)) j)
-    looked-made = made-rounds P made whole-made part-made
+    pub looked_made : (r j : ℕ) → Q (at (coeffs_of (rounds P r)) j)
+    looked_made = made_rounds P made whole_made part_made
 
   -- so each is a binary64 where the target's numbers are, whatever theta, threshold and lambda hold
-  pub coefficients-fit : ((i : ℕ) → T (fits binary64 (t i))) → (j : ℕ) → T (fits binary64 (at f.coeffs j))
-  coefficients-fit = coefficients-made in_format
+  pub coefficients_fit : ((i : ℕ) → T (fits binary64 (t i))) → (j : ℕ) → T (fits binary64 (at f.coeffs j))
+  coefficients_fit = coefficients_made in_format

@@ -24,7 +24,7 @@ use Rattle.rule.specs.declared.Stop.TheVariants.{NoData, FirstRefused, Empty, Re
 use Rattle.rule.specs.Rule.{Problem, State, latest, support, refit, first, rounds, reported, last_look, finish, fit, past, refitted}
 use Rattle.rule.specs.Rule as R
 use Rattle.rule.specs.Fits.{by_sums, by_normal, by_least, solves, problem, problem_by}
-use Rattle.rule.specs.Course.{Course, after-rounds}
+use Rattle.rule.specs.Course.{Course, after_rounds}
 
 -- the normal equations refuse, if at all, at one of their columns, however they are damped
 by_normal_within : (damp : Float → Float) (t : ℕ → Float) (rows c : ℕ) (e : Entry) → Within c (by_normal damp t rows c e)
@@ -79,9 +79,9 @@ module _ (P : Problem) (columned : Columned P) (few : P.cols ≤ 64) where
   At (R.done t cs ws) = RefusedAt P.cols t ws
 
   -- the term of a refused column is in the support, whose columns these are
-  at-term : (cs : List Float) (c : ℕ) → P.solve (support P cs) ≡ refused c → InSupport (support P cs) P.cols (term_at (support P cs) c)
+  at_term : (cs : List Float) (c : ℕ) → P.solve (support P cs) ≡ refused c → InSupport (support P cs) P.cols (term_at (support P cs) c)
   unfolding support
-  at-term cs c q =
+  at_term cs c q =
       let w = support P cs in
       let fits : w < 2 ^ P.cols = word_lt _ P.cols in
       let member = term_at_is w c (lt_of_lt_of_le fits (pow-le-pow_right {n = 2} (lit< tt) few)) (subst (Within (ones w)) q (columned.refits w)) in
@@ -92,19 +92,19 @@ module _ (P : Problem) (columned : Columned P) (few : P.cols ≤ 64) where
   unfolding At first refit
   refusing = record {
     nothing = λ e. tt;
-    refused-first = λ e c q. subst (Within P.cols) q columned.first_solve;
+    refused_first = λ e c q. subst (Within P.cols) q columned.first_solve;
     begins = λ e vs q. tt;
     rests = λ r t cs ws i. i;
     empties = λ r cs ws i. tt;
     settles = λ r cs ws i z e. tt;
-    refused-later = λ r cs ws i z l c q. at-term cs c q;
+    refused_later = λ r cs ws i z l c q. at_term cs c q;
     refits = λ r cs ws i z l vs q. tt;
   }
 
   -- so of the fit within a limit of rounds: the last look names no term
-  pub refused-at : (r : ℕ) → RefusedAt P.cols (fit P r).stop (refitted P r)
+  pub refused_at : (r : ℕ) → RefusedAt P.cols (fit P r).stop (refitted P r)
   unfolding fit finish reported refitted At last_look
-  refused-at r = go (rounds P r) (after-rounds P refusing r)
+  refused_at r = go (rounds P r) (after_rounds P refusing r)
     where
       go : (s : State) → At s → RefusedAt P.cols (finish P s).stop (past s)
       go (R.going cs ws) i =

@@ -7,9 +7,9 @@ use Rattle.std.specs.Float.Ieee.{fits}
 use Rattle.std.specs.Float.Ieee.Fits.{nan-fits, add-fits, sub-fits, div-fits}
 use Rattle.std.specs.Float.Ieee.Bits.{of_bits-fits}
 use Rattle.steps.specs.Num.{plus, less, over, +zero, at}
-use Rattle.steps.specs.Loops.{loop-keeps}
+use Rattle.steps.specs.Loops.{loop_keeps}
 use Rattle.steps.specs.Sums.{sum, less_sum}
-use Rattle.steps.specs.Table.{tab, length-tab}
+use Rattle.steps.specs.Table.{tab, length_tab}
 
 -- Q holds of a NaN, of +0.0, and of whatever an operation gives, its operands being any
 pub record Rounded (Q : Float → Type 0) : Type 0 where
@@ -36,16 +36,16 @@ module _ {Q : Float → Type 0} (made : Rounded Q) where
   -- a sum, and what it leaves of a number
   pub sum_made : (z : Float) (lo hi : ℕ) (f : ℕ → Float) → Q z → Q (sum z lo hi f)
   unfolding sum
-  sum_made z lo hi f q = loop-keeps Q lo hi _ z (λ i s p. made.sum_of s _) q
+  sum_made z lo hi f q = loop_keeps Q lo hi _ z (λ i s p. made.sum_of s _) q
 
   pub rest_made : (z : Float) (lo hi : ℕ) (f : ℕ → Float) → Q z → Q (less_sum z lo hi f)
   unfolding less_sum
-  rest_made z lo hi f q = loop-keeps Q lo hi _ z (λ i s p. made.rest_of s _) q
+  rest_made z lo hi f q = loop_keeps Q lo hi _ z (λ i s p. made.rest_of s _) q
 
   -- a list given by its numbers
   pub tab_column : (n : ℕ) (f : ℕ → Float) → ((i : ℕ) → Q (f i)) → Column Q n (tab n f)
   unfolding tab
-  tab_column n f h = record { long = length-tab n f; each = go n f h }
+  tab_column n f h = record { long = length_tab n f; each = go n f h }
     where
       go : (n : ℕ) (f : ℕ → Float) → ((i : ℕ) → Q (f i)) → (i : ℕ) → Q (at (tab n f) i)
       go zero f h i = made.none

@@ -8,14 +8,14 @@ use Prim.Native.Nat.{ℕ, ◌+◌, ◌^◌, ◌≤◌, ◌<◌}
 use Rattle.std.proofs.Math.Dec.{T}
 use Rattle.std.specs.Float.Ieee.{Float, nan}
 use Rattle.steps.specs.Num.{+zero, at}
-use Rattle.steps.specs.Table.{getD-tab}
+use Rattle.steps.specs.Table.{get_or_tab}
 use Rattle.support.specs.Word.{has, count, word, place, Sub, Strict}
 use Rattle.support.specs.WordLaws.{word_lt, has_word, has_lt, word_has}
 use Rattle.support.specs.CountLaws.{count_le, count_pos}
 use Rattle.support.specs.SubsetLaws.{strict_count}
 use Rattle.rule.specs.Rule.{Problem, State, going, done, latest, support, scatter, refit, first, rounds, fit, past, refitted}
-use Rattle.rule.specs.Course.{Course, after-rounds}
-use Rattle.rule.specs.Stable.{Falling, Bounded, ZeroKept, refits-counted, refits-few, ran_out}
+use Rattle.rule.specs.Course.{Course, after_rounds}
+use Rattle.rule.specs.Stable.{Falling, Bounded, ZeroKept, refits_counted, refits_few, ran_out}
 
 module _ (P : Problem) where
   -- the supports refitted: falling, the newest of the problem's terms, not empty, and with room for those before it
@@ -64,47 +64,47 @@ module _ (P : Problem) where
         let f : ℕ → Bool = λ k. P.keeps k (at cs k) in
         let g : ℕ → Float = λ k. cond (has (word f n) k) (at vs (place (word f n) k)) +zero in
         let l : j < n = has_lt _ n j (word_lt _ n) t in
-        let k : T (P.keeps j (g j)) = subst (λ (x : Float). T (P.keeps j x)) (getD-tab n g j nan l) (subst (λ (b : Bool). T b) (has_word _ n j l) t) in
-        in-w (has (word f n) j) _ (subst (λ (b : Bool). T (P.keeps j +zero) → T b) (sym (has_word f n j l)) (zk j (at cs j))) k
+        let k : T (P.keeps j (g j)) = subst (λ (x : Float). T (P.keeps j x)) (get_or_tab n g j nan l) (subst (λ (b : Bool). T b) (has_word _ n j l) t) in
+        in_w (has (word f n) j) _ (subst (λ (b : Bool). T (P.keeps j +zero) → T b) (sym (has_word f n j l)) (zk j (at cs j))) k
       where
-        in-w : (b : Bool) (x : Float) → (T (P.keeps j +zero) → T b) → T (P.keeps j (cond b x +zero)) → T b
-        in-w true x h k = tt
-        in-w false x h k = h k
+        in_w : (b : Bool) (x : Float) → (T (P.keeps j +zero) → T b) → T (P.keeps j (cond b x +zero)) → T b
+        in_w true x h k = tt
+        in_w false x h k = h k
 
     falls : Course P (λ r. Falls)
     unfolding Falls Good Inside first refit
     falls = record {
       nothing = λ e. tt;
-      refused-first = λ e c q. tt;
+      refused_first = λ e c q. tt;
       begins = λ e vs q. (tt, tt);
       rests = λ r t cs ws i. i;
       empties = λ r cs ws i. i.0;
       settles = λ r cs ws i z e. i.0;
-      refused-later = λ r cs ws i z l c q. pushed cs ws z l i.0 i.1;
+      refused_later = λ r cs ws i z l c q. pushed cs ws z l i.0 i.1;
       refits = λ r cs ws i z l vs q. (pushed cs ws z l i.0 i.1, scattered cs vs);
     }
 
     good : (r : ℕ) → Good (refitted P r)
     unfolding Falls refitted
-    good r = go (rounds P r) (after-rounds P falls r)
+    good r = go (rounds P r) (after_rounds P falls r)
       where
         go : (s : State) → Falls s → Good (past s)
         go (going cs ws) i = i.0
         go (done t cs ws) i = i
 
-    good-falls : (ws : List ℕ) → Good ws → Falling ws × (length ws ≤ P.cols)
+    good_falls : (ws : List ℕ) → Good ws → Falling ws × (length ws ≤ P.cols)
     unfolding Good
-    good-falls [] g = (tt, omega arith)
-    good-falls (w ∷ ws) g = (g.3, omega (arith, g.1, g.2))
+    good_falls [] g = (tt, omega arith)
+    good_falls (w ∷ ws) g = (g.3, omega (arith, g.1, g.2))
 
     pub bounded : Bounded P
     bounded = record {
-      counted = refits-counted P;
-      falling = λ r. (good-falls _ (good r)).0;
+      counted = refits_counted P;
+      falling = λ r. (good_falls _ (good r)).0;
       few_cols = few_cols;
-      few_rounds = refits-few P;
+      few_rounds = refits_few P;
       finishes = λ r h e. omega (arith, few_cols r, ran_out P r e);
     }
       where
         few_cols : (r : ℕ) → (fit P r).refits ≤ P.cols
-        few_cols r = omega (arith, refits-counted P r, (good-falls _ (good r)).1)
+        few_cols r = omega (arith, refits_counted P r, (good_falls _ (good r)).1)

@@ -12,8 +12,8 @@ use Rattle.support.specs.Word.{Strict}
 use Rattle.rule.specs.declared.Stop.{Stop}
 use Rattle.rule.specs.declared.Stop.TheVariants.{NoData, FirstRefused, Empty, RefitRefused, Settled, OutOfRounds}
 use Rattle.rule.specs.Rule.{Problem, State, going, done, refit, round, first, rounds, reported, last_stop, finish, fit, past, refitted}
-use Rattle.rule.specs.Course.{Course, after-rounds, of-fit}
-use Rattle.rule.specs.LastLook.{next-settles, next-same}
+use Rattle.rule.specs.Course.{Course, after_rounds, of_fit}
+use Rattle.rule.specs.LastLook.{next_settles, next_same}
 
 -- a support within the one that was refitted before it, if any
 abbrev pub Below : ℕ → List ℕ → Type 0
@@ -73,7 +73,7 @@ module _ (P : Problem) where
 
           -- the last look settled: so does the next round, and the rest change nothing
           late : r < m → fit P m ≡ fit P r
-          late l = ap (finish P) (stays (suc r) m (next-settles P r e here) l ∙ sym (next-settles P r e here)) ∙ next-same P r e here
+          late l = ap (finish P) (stays (suc r) m (next_settles P r e here) l ∙ sym (next_settles P r e here)) ∙ next_same P r e here
       go r m h k (done t cs ws) e = ap (finish P) (stays r m e h ∙ sym e)
 
   -- ---- a round refits at most once
@@ -87,33 +87,33 @@ module _ (P : Problem) where
   unfolding Counts first refit
   counting = record {
     nothing = λ e. (omega arith, tt);
-    refused-first = λ e c q. (omega arith, tt);
+    refused_first = λ e c q. (omega arith, tt);
     begins = λ e vs q. refl;
     rests = λ r t cs ws i. (omega (arith, i.0), i.1);
     empties = λ r cs ws i. (omega (arith, i), tt);
     settles = λ r cs ws i z e. (omega (arith, i), tt);
-    refused-later = λ r cs ws i z l c q. (omega (arith, i), tt);
+    refused_later = λ r cs ws i z l c q. (omega (arith, i), tt);
     refits = λ r cs ws i z l vs q. ap suc i;
   }
 
   -- a fit that goes on has refitted in each round
-  pub goes-counted : (r : ℕ) {cs : List Float} {ws : List ℕ} → rounds P r ≡ going cs ws → length ws ≡ r
+  pub goes_counted : (r : ℕ) {cs : List Float} {ws : List ℕ} → rounds P r ≡ going cs ws → length ws ≡ r
   unfolding Counts
-  goes-counted r e = subst (Counts r) e (after-rounds P counting r)
+  goes_counted r e = subst (Counts r) e (after_rounds P counting r)
 
   -- at any threshold: never more refits than rounds, and each round refitted where they ran out
-  pub refits-few : (r : ℕ) → (fit P r).refits ≤ r
+  pub refits_few : (r : ℕ) → (fit P r).refits ≤ r
   unfolding reported Counts
-  refits-few r = of-fit P counting (λ f. f.refits ≤ r) r (λ cs ws i. omega (arith, i)) (λ t cs ws i. i.0)
+  refits_few r = of_fit P counting (λ f. f.refits ≤ r) r (λ cs ws i. omega (arith, i)) (λ t cs ws i. i.0)
 
   pub ran_out : (r : ℕ) → (fit P r).stop ≡ OutOfRounds → (fit P r).refits ≡ r
   unfolding reported Counts
-  ran_out r = of-fit P counting (λ f. f.stop ≡ OutOfRounds → f.refits ≡ r) r (λ cs ws i e. i) (λ t cs ws i e. absurd (subst Ended e i.1))
+  ran_out r = of_fit P counting (λ f. f.stop ≡ OutOfRounds → f.refits ≡ r) r (λ cs ws i e. i) (λ t cs ws i e. absurd (subst Ended e i.1))
 
   -- the refit count is that of the refits of the rule
-  pub refits-counted : (r : ℕ) → (fit P r).refits ≡ length (refitted P r)
+  pub refits_counted : (r : ℕ) → (fit P r).refits ≡ length (refitted P r)
   unfolding fit finish reported refitted
-  refits-counted r = go (rounds P r)
+  refits_counted r = go (rounds P r)
     where
       go : (s : State) → (finish P s).refits ≡ length (past s)
       go (going cs ws) = refl

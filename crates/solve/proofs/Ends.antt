@@ -20,11 +20,11 @@ use Rattle.least.specs.Least.{values, least}
 use Rattle.solve.specs.Calls.{square_sizes, SquareCall, normal_sizes, NormalCall, invert_sizes, InvertCall, least_need, least_sizes, LeastLeft, LeastCall}
 
 module _ {why : ℕ → Refusal} {solve : Way (List Float × List Float)} {a b : List Float} {n : ℕ} {sizes : Answer} (judged : sizes ≡ square_sizes n (length a) (length b)) where
-  pub square-refused : {w : Refusal} → sizes ≡ Refused w → SquareCall why solve a b n a b sizes
-  square-refused e = record { sizes = sizes; judged = judged; answer = rw e; matrix = rw e; right = rw e }
+  pub square_refused : {w : Refusal} → sizes ≡ Refused w → SquareCall why solve a b n a b sizes
+  square_refused e = record { sizes = sizes; judged = judged; answer = rw e; matrix = rw e; right = rw e }
 
-  pub square-solved : (s : Solved) {a' b' : List Float} {r : Answer} → sizes ≡ Done → told s (a', b') ≡ solve → r ≡ answered why s → SquareCall why solve a b n a' b' r
-  square-solved s {a'} {b'} e t q =
+  pub square_solved : (s : Solved) {a' b' : List Float} {r : Answer} → sizes ≡ Done → told s (a', b') ≡ solve → r ≡ answered why s → SquareCall why solve a b n a' b' r
+  square_solved s {a'} {b'} e t q =
       let both = final_told {A = List Float × List Float} s (a', b') in
       record {
         sizes = sizes;
@@ -35,11 +35,11 @@ module _ {why : ℕ → Refusal} {solve : Way (List Float × List Float)} {a b :
       }
 
 module _ {a b : List Float} {n : ℕ} {w : List Float} {sizes : Answer} (judged : sizes ≡ normal_sizes n (length a) (length b) (length w)) where
-  pub normal-refused : {x : Refusal} → sizes ≡ Refused x → NormalCall a b n b w w sizes
-  normal-refused e = record { sizes = sizes; judged = judged; answer = rw e; right = rw e; space = rw e }
+  pub normal_refused : {x : Refusal} → sizes ≡ Refused x → NormalCall a b n b w w sizes
+  normal_refused e = record { sizes = sizes; judged = judged; answer = rw e; right = rw e; space = rw e }
 
-  pub normal-solved : (s : Solved) {b' w' : List Float} {r : Answer} → sizes ≡ Done → told s b' ≡ normal n a b → w' ≡ cleared (n * n) w → r ≡ answered SmallPivot s → NormalCall a b n b' w w' r
-  normal-solved s {b'} e t k q =
+  pub normal_solved : (s : Solved) {b' w' : List Float} {r : Answer} → sizes ≡ Done → told s b' ≡ normal n a b → w' ≡ cleared (n * n) w → r ≡ answered SmallPivot s → NormalCall a b n b' w w' r
+  normal_solved s {b'} e t k q =
       record {
         sizes = sizes;
         judged = judged;
@@ -49,11 +49,11 @@ module _ {a b : List Float} {n : ℕ} {w : List Float} {sizes : Answer} (judged 
       }
 
 module _ {a : List Float} {n : ℕ} {o w : List Float} {sizes : Answer} (judged : sizes ≡ invert_sizes n (length a) (length o) (length w)) where
-  pub invert-refused : {x : Refusal} → sizes ≡ Refused x → InvertCall a n o o w w sizes
-  invert-refused e = record { sizes = sizes; judged = judged; answer = rw e; out = rw e; space = rw e }
+  pub invert_refused : {x : Refusal} → sizes ≡ Refused x → InvertCall a n o o w w sizes
+  invert_refused e = record { sizes = sizes; judged = judged; answer = rw e; out = rw e; space = rw e }
 
-  pub invert-solved : (s : Solved) {o' w' : List Float} {r : Answer} → sizes ≡ Done → told s o' ≡ invert n a o → w' ≡ cleared (n * n + n) w → r ≡ answered NotSpd s → InvertCall a n o o' w w' r
-  invert-solved s {o'} e t k q =
+  pub invert_solved : (s : Solved) {o' w' : List Float} {r : Answer} → sizes ≡ Done → told s o' ≡ invert n a o → w' ≡ cleared (n * n + n) w → r ≡ answered NotSpd s → InvertCall a n o o' w w' r
+  invert_solved s {o'} e t k q =
       record {
         sizes = sizes;
         judged = judged;
@@ -64,17 +64,17 @@ module _ {a : List Float} {n : ℕ} {o w : List Float} {sizes : Answer} (judged 
 
 module _ (n : ℕ) {x : Solution} {o : List Float} where
   -- least squares that is refused leaves the output as it was
-  pub least-stops : (s : Solved) {c : ℕ} (y : List Float) {r : Answer} → s ≡ S.Refused c → values n (told s y) ≡ x → r ≡ answered SmallPivot s → LeastLeft x o o r
+  pub least_stops : (s : Solved) {c : ℕ} (y : List Float) {r : Answer} → s ≡ S.Refused c → values n (told s y) ≡ x → r ≡ answered SmallPivot s → LeastLeft x o o r
   unfolding values
-  least-stops s y e t i = let q = rw e at t in record { answer = rw (← q) (rw e at i); out = rw (← q) }
+  least_stops s y e t i = let q = rw e at t in record { answer = rw (← q) (rw e at i); out = rw (← q) }
 
-  pub least-solves : (s : Solved) (y : List Float) {o' : List Float} → s ≡ S.Done → values n (told s y) ≡ x → o' ≡ take n y → LeastLeft x o o' Done
+  pub least_solves : (s : Solved) (y : List Float) {o' : List Float} → s ≡ S.Done → values n (told s y) ≡ x → o' ≡ take n y → LeastLeft x o o' Done
   unfolding values
-  least-solves s y e t out = let q = rw e at t in record { answer = rw (← q); out = rw (← q) out }
+  least_solves s y e t out = let q = rw e at t in record { answer = rw (← q); out = rw (← q) out }
 
 module _ {a b : List Float} {m n : ℕ} {o w : List Float} {sizes : Answer} (judged : sizes ≡ least_sizes m n (length a) (length b) (length o) (length w)) where
-  pub least-refused : {x : Refusal} → sizes ≡ Refused x → LeastCall a b m n o o w w sizes
-  least-refused e = record { sizes = sizes; judged = judged; answer = rw e; out = rw e; space = rw e }
+  pub least_refused : {x : Refusal} → sizes ≡ Refused x → LeastCall a b m n o o w w sizes
+  least_refused e = record { sizes = sizes; judged = judged; answer = rw e; out = rw e; space = rw e }
 
-  pub least-solved : {o' w' : List Float} {r : Answer} → sizes ≡ Done → LeastLeft (least m n a b) o o' r → w' ≡ cleared (least_need m n) w → LeastCall a b m n o o' w w' r
-  least-solved e q k = record { sizes = sizes; judged = judged; answer = rw e q.answer; out = rw e q.out; space = rw e k }
+  pub least_solved : {o' w' : List Float} {r : Answer} → sizes ≡ Done → LeastLeft (least m n a b) o o' r → w' ≡ cleared (least_need m n) w → LeastCall a b m n o o' w w' r
+  least_solved e q k = record { sizes = sizes; judged = judged; answer = rw e q.answer; out = rw e q.out; space = rw e k }

@@ -2,7 +2,7 @@
 use Rattle.std.specs.Prelude.{◌≡◌, not, List, ℕ, ◌+◌, ◌*◌, ltb, eqb, length, Float}
 use Rattle.steps.specs.Loops.{Way, final}
 use Rattle.steps.specs.Space.{cleared}
-use Rattle.refusal.specs.Answers.{refuse_if, if-done, and_then, ended, Solution, solved, refused}
+use Rattle.refusal.specs.Answers.{refuse_if, if_done, and_then, ended, Solution, solved, refused}
 use Rattle.refusal.specs.declared.Answer.{Answer}
 use Rattle.refusal.specs.declared.Answer.TheVariants.{Done, Refused}
 use Rattle.refusal.specs.declared.Refusal.{Refusal}
@@ -59,8 +59,8 @@ pub record SquareCall (why : ℕ → Refusal) (solve : Way (List Float × List F
   pub sizes : Answer
   pub judged : sizes ≡ square_sizes n (length a) (length b)
   pub answer : r ≡ and_then sizes (ended why solve)
-  pub matrix : a' ≡ if-done sizes (final solve).0 a
-  pub right : b' ≡ if-done sizes (final solve).1 b
+  pub matrix : a' ≡ if_done sizes (final solve).0 a
+  pub right : b' ≡ if_done sizes (final solve).1 b
 
 -- `solve_spd_cholesky`: 8 leaves b unchanged, and the factor in the columns before the refused one
 abbrev pub CholeskyCall : List Float → List Float → ℕ → List Float → List Float → Answer → Type 0
@@ -75,16 +75,16 @@ pub record NormalCall (a b : List Float) (n : ℕ) (b' w w' : List Float) (r : A
   pub sizes : Answer
   pub judged : sizes ≡ normal_sizes n (length a) (length b) (length w)
   pub answer : r ≡ and_then sizes (ended SmallPivot (normal n a b))
-  pub right : b' ≡ if-done sizes (final (normal n a b)) b
-  pub space : w' ≡ if-done sizes (cleared (n * n) w) w
+  pub right : b' ≡ if_done sizes (final (normal n a b)) b
+  pub space : w' ≡ if_done sizes (cleared (n * n) w) w
 
 -- `invert_spd`: 8 carries Cholesky's column and leaves the output unchanged; the workspace is cleared after acceptance and after 8
 pub record InvertCall (a : List Float) (n : ℕ) (o o' w w' : List Float) (r : Answer) : Type 0 where
   pub sizes : Answer
   pub judged : sizes ≡ invert_sizes n (length a) (length o) (length w)
   pub answer : r ≡ and_then sizes (ended NotSpd (invert n a o))
-  pub out : o' ≡ if-done sizes (final (invert n a o)) o
-  pub space : w' ≡ if-done sizes (cleared (n * n + n) w) w
+  pub out : o' ≡ if_done sizes (final (invert n a o)) o
+  pub space : w' ≡ if_done sizes (cleared (n * n + n) w) w
 
 -- a solution as an answer, and what it leaves in the output: a refusal leaves it unchanged
 abbrev pub least_answer : Solution → Answer
@@ -105,5 +105,5 @@ pub record LeastCall (a b : List Float) (m n : ℕ) (o o' w w' : List Float) (r 
   pub sizes : Answer
   pub judged : sizes ≡ least_sizes m n (length a) (length b) (length o) (length w)
   pub answer : r ≡ and_then sizes (least_answer (least m n a b))
-  pub out : o' ≡ if-done sizes (least_out (least m n a b) o) o
-  pub space : w' ≡ if-done sizes (cleared (least_need m n) w) w
+  pub out : o' ≡ if_done sizes (least_out (least m n a b) o) o
+  pub space : w' ≡ if_done sizes (cleared (least_need m n) w) w

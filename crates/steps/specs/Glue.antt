@@ -7,7 +7,7 @@ use Rattle.std.proofs.Math.Seq.{drop-length}
 use Rattle.std.proofs.lemmas.List.{take-append-le, drop-append-le}
 use Rattle.std.specs.Float.{nan}
 use Rattle.steps.specs.Num.{at}
-use Rattle.steps.specs.Loops.{loop, loop-none, loop-more}
+use Rattle.steps.specs.Loops.{loop, loop_none, loop_more}
 use Rattle.steps.specs.Space.{part, with_part, set_append_add}
 
 module _ (a b s : List Float) (k : ℕ) (len : length a ≡ k) (is : s ≡ a ++ b) where
@@ -20,25 +20,25 @@ module _ (a b s : List Float) (k : ℕ) (len : length a ≡ k) (is : s ≡ a ++ 
   pub set_back : (i : ℕ) (v : Float) → set s (k + i) v ≡ a ++ set b i v
   set_back i v = rw (is, ← len) (set_append_add a b i v)
 
-  pub take-front : take k s ≡ a
-  take-front = rw is (take_at a b k len)
+  pub take_front : take k s ≡ a
+  take_front = rw is (take_at a b k len)
 
-  pub drop-back : drop k s ≡ b
-  drop-back = rw is (drop_at a b k len)
+  pub drop_back : drop k s ≡ b
+  drop_back = rw is (drop_at a b k len)
 
   -- what a callee says of the two lists
   pub seen : (F : List Float → List Float → List Float) {t : List Float} → t ≡ take k s ++ F (take k s) (drop k s) → t ≡ a ++ F a b
-  seen F q = rw (take-front, drop-back) at q
+  seen F q = rw (take_front, drop_back) at q
 
 -- a loop that writes the list behind: before its first turn, and one more turn
 pub glued_none : (s : List Float) (k lo : ℕ) (f : ℕ → List Float → List Float) → s ≡ take k s ++ loop lo lo f (drop k s)
-glued_none s k lo f = sym (rw (loop-none lo f (drop k s)) (take-append-drop k s))
+glued_none s k lo f = sym (rw (loop_none lo f (drop k s)) (take-append-drop k s))
 
 pub glued_more : (a b s : List Float) (k lo i : ℕ) (f : ℕ → List Float → Float) (v : Float) → length a ≡ k → lo ≤ i →
     s ≡ a ++ loop lo i (λ j l. set l j (f j l)) b → v ≡ f i (loop lo i (λ j l. set l j (f j l)) b) → set s (k + i) v ≡ a ++ loop lo (i + 1) (λ j l. set l j (f j l)) b
 glued_more a b s k lo i f v len h is e =
     set_back a _ s k len is i v
-    ∙ ap (λ (z : List Float). a ++ z) (loop-more lo i (λ j l. set l j (f j l)) b h refl (ap (λ (z : Float). set (loop lo i (λ j l. set l j (f j l)) b) i z) e))
+    ∙ ap (λ (z : List Float). a ++ z) (loop_more lo i (λ j l. set l j (f j l)) b h refl (ap (λ (z : Float). set (loop lo i (λ j l. set l j (f j l)) b) i z) e))
 
 -- two parts that fill a slice are what stands there
 pub both_parts : (k m : ℕ) (s a b : List Float) → length s ≡ k + m → length a ≡ k → with_part k (k + m) b (with_part 0 k a s) ≡ a ++ b

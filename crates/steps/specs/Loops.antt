@@ -16,40 +16,40 @@ module _ {ℓ} {S : Type ℓ} where
   unfoldable pub loop : ℕ → ℕ → (ℕ → S → S) → S → S
   loop lo hi f s = turns lo (hi - lo) f s
 
-  pub loop-none : (lo : ℕ) (f : ℕ → S → S) (s : S) → loop lo lo f s ≡ s
+  pub loop_none : (lo : ℕ) (f : ℕ → S → S) (s : S) → loop lo lo f s ≡ s
   unfolding loop turns
-  loop-none lo f s = rw sub_self
+  loop_none lo f s = rw sub_self
 
-  pub loop-step : (lo i : ℕ) (f : ℕ → S → S) (s : S) → lo ≤ i → loop lo (i + 1) f s ≡ f i (loop lo i f s)
+  pub loop_step : (lo i : ℕ) (f : ℕ → S → S) (s : S) → lo ≤ i → loop lo (i + 1) f s ≡ f i (loop lo i f s)
   unfolding loop turns
-  loop-step lo i f s h =
+  loop_step lo i f s h =
       let e : i + 1 - lo ≡ suc (i - lo) = omega arith in
       rw e (ap (λ (k : ℕ). f k (turns lo (i - lo) f s)) (add-sub_of_le h))
 
   -- one more turn, as an invariant `t ≡ loop lo i f s` asks it
-  pub loop-more : (lo i : ℕ) (f : ℕ → S → S) (s : S) {t u : S} → lo ≤ i → t ≡ loop lo i f s → u ≡ f i t → u ≡ loop lo (i + 1) f s
-  loop-more lo i f s h p q = q ∙ ap (f i) p ∙ sym (loop-step lo i f s h)
+  pub loop_more : (lo i : ℕ) (f : ℕ → S → S) (s : S) {t u : S} → lo ≤ i → t ≡ loop lo i f s → u ≡ f i t → u ≡ loop lo (i + 1) f s
+  loop_more lo i f s h p q = q ∙ ap (f i) p ∙ sym (loop_step lo i f s h)
 
   -- the end: the number is the bound
-  pub loop-end : (lo i hi : ℕ) (f : ℕ → S → S) (s : S) {t : S} → t ≡ loop lo i f s → i ≤ hi → hi ≤ i → t ≡ loop lo hi f s
-  loop-end lo i hi f s p h k = p ∙ ap (λ (x : ℕ). loop lo x f s) (le_antisymm h k)
+  pub loop_end : (lo i hi : ℕ) (f : ℕ → S → S) (s : S) {t : S} → t ≡ loop lo i f s → i ≤ hi → hi ≤ i → t ≡ loop lo hi f s
+  loop_end lo i hi f s p h k = p ∙ ap (λ (x : ℕ). loop lo x f s) (le_antisymm h k)
 
   -- what each turn keeps, of those that the loop takes, the loop keeps
-  pub loop-keeps-below : (P : S → Type 0) (lo hi : ℕ) (f : ℕ → S → S) (s : S) → ((i : ℕ) (t : S) → i < hi → P t → P (f i t)) → P s → P (loop lo hi f s)
+  pub loop_keeps_below : (P : S → Type 0) (lo hi : ℕ) (f : ℕ → S → S) (s : S) → ((i : ℕ) (t : S) → i < hi → P t → P (f i t)) → P s → P (loop lo hi f s)
   unfolding loop turns
-  loop-keeps-below P lo hi f s k p = go (hi - lo) (λ i l. omega arith)
+  loop_keeps_below P lo hi f s k p = go (hi - lo) (λ i l. omega arith)
     where
       go : (n : ℕ) → ((i : ℕ) → i < n → lo + i < hi) → P (turns lo n f s)
       go zero b = p
       go (suc n) b = k (lo + n) (turns lo n f s) (b n (omega arith)) (go n (λ i l. b i (omega arith)))
 
-  pub loop-keeps : (P : S → Type 0) (lo hi : ℕ) (f : ℕ → S → S) (s : S) → ((i : ℕ) (t : S) → P t → P (f i t)) → P s → P (loop lo hi f s)
-  loop-keeps P lo hi f s k p = loop-keeps-below P lo hi f s (λ i t l. k i t) p
+  pub loop_keeps : (P : S → Type 0) (lo hi : ℕ) (f : ℕ → S → S) (s : S) → ((i : ℕ) (t : S) → P t → P (f i t)) → P s → P (loop lo hi f s)
+  loop_keeps P lo hi f s k p = loop_keeps_below P lo hi f s (λ i t l. k i t) p
 
   -- loops whose turns are alike give the same
-  pub loop-cong : (lo hi : ℕ) (f g : ℕ → S → S) (s : S) → ((i : ℕ) (t : S) → lo ≤ i → i < hi → f i t ≡ g i t) → loop lo hi f s ≡ loop lo hi g s
+  pub loop_cong : (lo hi : ℕ) (f g : ℕ → S → S) (s : S) → ((i : ℕ) (t : S) → lo ≤ i → i < hi → f i t ≡ g i t) → loop lo hi f s ≡ loop lo hi g s
   unfolding loop turns
-  loop-cong lo hi f g s h = go (hi - lo) (λ i k. omega arith)
+  loop_cong lo hi f g s h = go (hi - lo) (λ i k. omega arith)
     where
       go : (n : ℕ) → ((i : ℕ) → i < n → lo + i < hi) → turns lo n f s ≡ turns lo n g s
       go zero b = refl
@@ -58,41 +58,41 @@ module _ {ℓ} {S : Type ℓ} where
           ∙ ap (g (lo + n)) (go n (λ i k. b i (omega arith)))
 
   -- a state that no turn changes is the loop's result
-  pub loop-fixed : (lo i hi : ℕ) (f : ℕ → S → S) (s t : S) → lo ≤ i → i ≤ hi → loop lo i f s ≡ t → ((k : ℕ) → f k t ≡ t) → loop lo hi f s ≡ t
+  pub loop_fixed : (lo i hi : ℕ) (f : ℕ → S → S) (s t : S) → lo ≤ i → i ≤ hi → loop lo i f s ≡ t → ((k : ℕ) → f k t ≡ t) → loop lo hi f s ≡ t
   unfolding loop turns
-  loop-fixed lo i hi f s t h h' e k = let d : hi - lo ≡ (i - lo) + (hi - i) = omega arith in rw d (go (hi - i))
+  loop_fixed lo i hi f s t h h' e k = let d : hi - lo ≡ (i - lo) + (hi - i) = omega arith in rw d (go (hi - i))
     where
       go : (n : ℕ) → turns lo ((i - lo) + n) f s ≡ t
       go zero = rw add-zero e
       go (suc n) = rw (add-suc, go n) (k (lo + ((i - lo) + n)))
 
   -- `for i in (0..n).rev() { s = f(i, s) }`
-  unfoldable pub down-from : ℕ → (ℕ → S → S) → S → S
-  down-from zero f s = s
-  down-from (suc i) f s = down-from i f (f i s)
+  unfoldable pub down_from : ℕ → (ℕ → S → S) → S → S
+  down_from zero f s = s
+  down_from (suc i) f s = down_from i f (f i s)
 
-  pub down-none : (f : ℕ → S → S) (s : S) → down-from 0 f s ≡ s
-  unfolding down-from
-  down-none f s = refl
+  pub down_none : (f : ℕ → S → S) (s : S) → down_from 0 f s ≡ s
+  unfolding down_from
+  down_none f s = refl
 
   -- one turn: what is left from i is what is left from i - 1 after it
-  pub down-more : (f : ℕ → S → S) (i : ℕ) (s : S) → 0 < i → down-from i f s ≡ down-from (i - 1) f (f (i - 1) s)
-  unfolding down-from
-  down-more f zero s h = absurd (not-suc-le-zero h)
-  down-more f (suc i) s h = let e : suc i - 1 ≡ i = omega arith in rw e
+  pub down_more : (f : ℕ → S → S) (i : ℕ) (s : S) → 0 < i → down_from i f s ≡ down_from (i - 1) f (f (i - 1) s)
+  unfolding down_from
+  down_more f zero s h = absurd (not-suc-le-zero h)
+  down_more f (suc i) s h = let e : suc i - 1 ≡ i = omega arith in rw e
 
-  pub down-fixed : (f : ℕ → S → S) (i : ℕ) (s : S) → ((k : ℕ) → f k s ≡ s) → down-from i f s ≡ s
-  unfolding down-from
-  down-fixed f zero s h = refl
-  down-fixed f (suc i) s h = ap (down-from i f) (h i) ∙ down-fixed f i s h
+  pub down_fixed : (f : ℕ → S → S) (i : ℕ) (s : S) → ((k : ℕ) → f k s ≡ s) → down_from i f s ≡ s
+  unfolding down_from
+  down_fixed f zero s h = refl
+  down_fixed f (suc i) s h = ap (down_from i f) (h i) ∙ down_fixed f i s h
 
-  pub down-keeps-below : (P : S → Type 0) (n : ℕ) (f : ℕ → S → S) (s : S) → ((i : ℕ) (t : S) → i < n → P t → P (f i t)) → P s → P (down-from n f s)
-  unfolding down-from
-  down-keeps-below P zero f s k p = p
-  down-keeps-below P (suc n) f s k p = down-keeps-below P n f (f n s) (λ i t l. k i t (omega arith)) (k n s (omega arith) p)
+  pub down_keeps_below : (P : S → Type 0) (n : ℕ) (f : ℕ → S → S) (s : S) → ((i : ℕ) (t : S) → i < n → P t → P (f i t)) → P s → P (down_from n f s)
+  unfolding down_from
+  down_keeps_below P zero f s k p = p
+  down_keeps_below P (suc n) f s k p = down_keeps_below P n f (f n s) (λ i t l. k i t (omega arith)) (k n s (omega arith) p)
 
-  pub down-keeps : (P : S → Type 0) (n : ℕ) (f : ℕ → S → S) (s : S) → ((i : ℕ) (t : S) → P t → P (f i t)) → P s → P (down-from n f s)
-  down-keeps P n f s k p = down-keeps-below P n f s (λ i t l. k i t) p
+  pub down_keeps : (P : S → Type 0) (n : ℕ) (f : ℕ → S → S) (s : S) → ((i : ℕ) (t : S) → P t → P (f i t)) → P s → P (down_from n f s)
+  down_keeps P n f s k p = down_keeps_below P n f s (λ i t l. k i t) p
 
 -- The state of a loop that can be left early: still going, or stopped at a number (a refused column).
 pub data Way (S : Type 0) : Type 0 where
@@ -119,59 +119,59 @@ module _ {S : Type 0} (f : ℕ → S → Way S) where
   unfoldable pub way : ℕ → ℕ → S → Way S
   way lo hi s = loop lo hi (onward f) (going s)
 
-  pub way-none : (lo : ℕ) (s : S) → way lo lo s ≡ going s
+  pub way_none : (lo : ℕ) (s : S) → way lo lo s ≡ going s
   unfolding way
-  way-none lo s = loop-none lo (onward f) (going s)
+  way_none lo s = loop_none lo (onward f) (going s)
 
-  pub way-goes : (lo i : ℕ) (s t u : S) → lo ≤ i → way lo i s ≡ going t → f i t ≡ going u → way lo (i + 1) s ≡ going u
+  pub way_goes : (lo i : ℕ) (s t u : S) → lo ≤ i → way lo i s ≡ going t → f i t ≡ going u → way lo (i + 1) s ≡ going u
   unfolding way
-  way-goes lo i s t u h e g = rw (loop-step, e) g
+  way_goes lo i s t u h e g = rw (loop_step, e) g
 
-  pub way-stops : (lo i hi c : ℕ) (s t u : S) → lo ≤ i → i < hi → way lo i s ≡ going t → f i t ≡ stopped c u → way lo hi s ≡ stopped c u
+  pub way_stops : (lo i hi c : ℕ) (s t u : S) → lo ≤ i → i < hi → way lo i s ≡ going t → f i t ≡ stopped c u → way lo hi s ≡ stopped c u
   unfolding way
-  way-stops lo i hi c s t u h h' e g =
-      loop-fixed lo (i + 1) hi (onward f) (going s) (stopped c u) (omega arith) (omega arith) (rw (loop-step, e) g) (λ k. refl)
+  way_stops lo i hi c s t u h h' e g =
+      loop_fixed lo (i + 1) hi (onward f) (going s) (stopped c u) (omega arith) (omega arith) (rw (loop_step, e) g) (λ k. refl)
 
   -- the same by falling number, from below n
   unfoldable pub way_down : ℕ → S → Way S
-  way_down n s = down-from n (onward f) (going s)
+  way_down n s = down_from n (onward f) (going s)
 
-  pub way-down-none : (s : S) → way_down 0 s ≡ going s
+  pub way_down_none : (s : S) → way_down 0 s ≡ going s
   unfolding way_down
-  way-down-none s = down-none (onward f) (going s)
+  way_down_none s = down_none (onward f) (going s)
 
-  pub way-down-goes : (i : ℕ) (s t : S) → 0 < i → f (i - 1) s ≡ going t → way_down i s ≡ way_down (i - 1) t
+  pub way_down_goes : (i : ℕ) (s t : S) → 0 < i → f (i - 1) s ≡ going t → way_down i s ≡ way_down (i - 1) t
   unfolding way_down
-  way-down-goes i s t h e = down-more (onward f) i (going s) h ∙ rw e
+  way_down_goes i s t h e = down_more (onward f) i (going s) h ∙ rw e
 
-  pub way-down-stops : (i c : ℕ) (s t : S) → 0 < i → f (i - 1) s ≡ stopped c t → way_down i s ≡ stopped c t
+  pub way_down_stops : (i c : ℕ) (s t : S) → 0 < i → f (i - 1) s ≡ stopped c t → way_down i s ≡ stopped c t
   unfolding way_down
-  way-down-stops i c s t h e = down-more (onward f) i (going s) h ∙ rw e (down-fixed (onward f) (i - 1) (stopped c t) (λ k. refl))
+  way_down_stops i c s t h e = down_more (onward f) i (going s) h ∙ rw e (down_fixed (onward f) (i - 1) (stopped c t) (λ k. refl))
 
   -- what each turn keeps, both keep, stopped or not
   module _ (P : S → Type 0) (k : (i : ℕ) (t : S) → P t → P (final (f i t))) where
-    onward-keeps : (i : ℕ) (w : Way S) → P (final w) → P (final (onward f i w))
-    onward-keeps i (going s) p = k i s p
-    onward-keeps i (stopped c s) p = p
+    onward_keeps : (i : ℕ) (w : Way S) → P (final w) → P (final (onward f i w))
+    onward_keeps i (going s) p = k i s p
+    onward_keeps i (stopped c s) p = p
 
-    pub way-keeps : (lo hi : ℕ) (s : S) → P s → P (final (way lo hi s))
+    pub way_keeps : (lo hi : ℕ) (s : S) → P s → P (final (way lo hi s))
     unfolding way
-    way-keeps lo hi s p = loop-keeps (λ w. P (final w)) lo hi (onward f) (going s) onward-keeps p
+    way_keeps lo hi s p = loop_keeps (λ w. P (final w)) lo hi (onward f) (going s) onward_keeps p
 
-    pub way-down-keeps : (n : ℕ) (s : S) → P s → P (final (way_down n s))
+    pub way_down_keeps : (n : ℕ) (s : S) → P s → P (final (way_down n s))
     unfolding way_down
-    way-down-keeps n s p = down-keeps (λ w. P (final w)) n (onward f) (going s) onward-keeps p
+    way_down_keeps n s p = down_keeps (λ w. P (final w)) n (onward f) (going s) onward_keeps p
 
   -- turns that stop below n: so do both
   module _ (n : ℕ) (k : (i : ℕ) (t : S) → i < n → StopsBelow n (f i t)) where
-    onward-below : (i : ℕ) (w : Way S) → i < n → StopsBelow n w → StopsBelow n (onward f i w)
-    onward-below i (going s) l p = k i s l
-    onward-below i (stopped c s) l p = p
+    onward_below : (i : ℕ) (w : Way S) → i < n → StopsBelow n w → StopsBelow n (onward f i w)
+    onward_below i (going s) l p = k i s l
+    onward_below i (stopped c s) l p = p
 
-    pub way-below : (lo : ℕ) (s : S) → StopsBelow n (way lo n s)
+    pub way_below : (lo : ℕ) (s : S) → StopsBelow n (way lo n s)
     unfolding way
-    way-below lo s = loop-keeps-below (StopsBelow n) lo n (onward f) (going s) onward-below tt
+    way_below lo s = loop_keeps_below (StopsBelow n) lo n (onward f) (going s) onward_below tt
 
-    pub way-down-below : (s : S) → StopsBelow n (way_down n s)
+    pub way_down_below : (s : S) → StopsBelow n (way_down n s)
     unfolding way_down
-    way-down-below s = down-keeps-below (StopsBelow n) n (onward f) (going s) onward-below tt
+    way_down_below s = down_keeps_below (StopsBelow n) n (onward f) (going s) onward_below tt

@@ -4,7 +4,7 @@ use Rattle.std.proofs.Common.{sym, ◌∙◌, subst, inl, inr, ⊎_elim, eq-or-l
 use Rattle.std.proofs.Math.Arith.{digits_lt}
 use Rattle.std.specs.Float.{nan}
 use Rattle.steps.specs.Num.{Entry, cell}
-use Rattle.steps.specs.Table.{table, is-table}
+use Rattle.steps.specs.Table.{table, is_table}
 use Rattle.steps.specs.Wrote.{Wrote}
 
 -- rows below i are those of f, the others those of l
@@ -38,4 +38,4 @@ rows_wrote m n f l i l' l'' w u =
     rows_more m n f l i l' l'' w u.long (λ c h. u.done c (omega arith) h) (λ r c d h. u.rest (r * n + c) (λ c' a b q. rows_apart n r i c c' d h b q))
 
 pub rows_end : (m n : ℕ) (f : Entry) (l l' : List Float) → length l ≡ m * n → Rows m n f l m l' → l' ≡ table m n f
-rows_end m n f l l' len w = is-table m n f l' nan (w.long ∙ len) (λ i c h g. w.new i c h g)
+rows_end m n f l l' len w = is_table m n f l' nan (w.long ∙ len) (λ i c h g. w.new i c h g)

@@ -39,23 +39,23 @@ unfolding cleared
 cleared_more k s h = rw add-one (fill_suc k +zero s h)
 
 module _ (a e : ℕ) (t s : List Float) (h : a ≤ e) (h' : e ≤ length s) (len : length t ≡ e - a) where
-  before-len : length (take a s) ≡ a
-  before-len = simp length-take (omega arith)
+  before_len : length (take a s) ≡ a
+  before_len = simp length-take (omega arith)
 
-  pub length-with : length (with_part a e t s) ≡ length s
+  pub length_with : length (with_part a e t s) ≡ length s
   unfolding with_part
-  length-with = simp (length-append, length-take, length-drop) (omega (arith, len))
+  length_with = simp (length-append, length-take, length-drop) (omega (arith, len))
 
   -- the part is what was put there
-  pub part-with : part a e (with_part a e t s) ≡ t
+  pub part_with : part a e (with_part a e t s) ≡ t
   unfolding with_part
-  part-with = rw (drop_at (take a s) _ a before-len, take_at t _ (e - a) len)
+  part_with = rw (drop_at (take a s) _ a before_len, take_at t _ (e - a) len)
 
   -- what stands past k, at or past the part's end, is as it was
-  pub drop-with : (k : ℕ) → e ≤ k → drop k (with_part a e t s) ≡ drop k s
+  pub drop_with : (k : ℕ) → e ≤ k → drop k (with_part a e t s) ≡ drop k s
   unfolding with_part
-  drop-with k hk =
-      let e₁ : k ≡ length (take a s) + (length t + (k - e)) = omega (arith, before-len, len) in
+  drop_with k hk =
+      let e₁ : k ≡ length (take a s) + (length t + (k - e)) = omega (arith, before_len, len) in
       let e₂ : a + (e - a + (k - e)) ≡ k = omega arith in
       ap (λ (n : ℕ). drop n (take a s ++ (t ++ drop (e - a) (drop a s)))) e₁
       ∙ drop-append-add (take a s) _ _ ∙ drop-append-add t _ _
@@ -86,7 +86,7 @@ cleared_same k s t h = ap (λ (l : List Float). replicate k +zero ++ l) h
 
 -- clearing a workspace forgets a part within what is cleared
 pub cleared_with : (a e k : ℕ) (t s : List Float) → a ≤ e → e ≤ k → k ≤ length s → length t ≡ e - a → cleared k (with_part a e t s) ≡ cleared k s
-cleared_with a e k t s h hk h' len = cleared_same k _ s (drop-with a e t s h (omega arith) len k hk)
+cleared_with a e k t s h hk h' len = cleared_same k _ s (drop_with a e t s h (omega arith) len k hk)
 
 -- so of a workspace whose head was lent
 pub cleared_head : (k need : ℕ) (t w : List Float) → k ≤ need → need ≤ length w → length t ≡ length (take (k - 0) w) → cleared need (with_part 0 k t w) ≡ cleared need w
@@ -95,7 +95,7 @@ cleared_head k need t w h h' len = cleared_with 0 k need t w (omega arith) h h' 
 -- what stands past a part is as it was
 pub get_after : (a e : ℕ) (t s : List Float) (k : ℕ) → a ≤ e → e ≤ length s → length t ≡ e - a → e ≤ k → at (with_part a e t s) k ≡ at s k
 get_after a e t s k h h' len hk =
-    sym (first (with_part a e t s)) ∙ ap (λ (l : List Float). get_or l 0 nan) (drop-with a e t s h h' len k hk) ∙ first s
+    sym (first (with_part a e t s)) ∙ ap (λ (l : List Float). get_or l 0 nan) (drop_with a e t s h h' len k hk) ∙ first s
   where
     first : (l : List Float) → get_or (drop k l) 0 nan ≡ at l k
     first l = get_or-drop k l 0 nan ∙ rw add-zero

@@ -26,30 +26,30 @@ module _ {ℓ} {A : Type ℓ} where
   tab zero f = []
   tab (suc n) f = f zero ∷ tab n (λ k. f (suc k))
 
-  pub length-tab : (n : ℕ) (f : ℕ → A) → length (tab n f) ≡ n
+  pub length_tab : (n : ℕ) (f : ℕ → A) → length (tab n f) ≡ n
   unfolding tab
-  length-tab zero f = refl
-  length-tab (suc n) f = ap suc (length-tab n (λ k. f (suc k)))
+  length_tab zero f = refl
+  length_tab (suc n) f = ap suc (length_tab n (λ k. f (suc k)))
 
-  pub getD-tab : (n : ℕ) (f : ℕ → A) (i : ℕ) (d : A) → i < n → get_or (tab n f) i d ≡ f i
+  pub get_or_tab : (n : ℕ) (f : ℕ → A) (i : ℕ) (d : A) → i < n → get_or (tab n f) i d ≡ f i
   unfolding tab
-  getD-tab zero f i d h = absurd (not-suc-le-zero h)
-  getD-tab (suc n) f zero d h = refl
-  getD-tab (suc n) f (suc i) d h = getD-tab n (λ k. f (suc k)) i d (le_of_suc-le-suc h)
+  get_or_tab zero f i d h = absurd (not-suc-le-zero h)
+  get_or_tab (suc n) f zero d h = refl
+  get_or_tab (suc n) f (suc i) d h = get_or_tab n (λ k. f (suc k)) i d (le_of_suc-le-suc h)
 
   -- a list with those numbers is that list
-  pub is-tab : (n : ℕ) (f : ℕ → A) (l : List A) (d : A) → length l ≡ n → ((i : ℕ) → i < n → get_or l i d ≡ f i) → l ≡ tab n f
-  is-tab n f l d len h = ext_get_or d l (tab n f) (len ∙ sym (length-tab n f)) (λ i k. let b : i < n = omega (arith, len) in h i b ∙ sym (getD-tab n f i d b))
+  pub is_tab : (n : ℕ) (f : ℕ → A) (l : List A) (d : A) → length l ≡ n → ((i : ℕ) → i < n → get_or l i d ≡ f i) → l ≡ tab n f
+  is_tab n f l d len h = ext_get_or d l (tab n f) (len ∙ sym (length_tab n f)) (λ i k. let b : i < n = omega (arith, len) in h i b ∙ sym (get_or_tab n f i d b))
 
-  pub tab-cong : (n : ℕ) (f g : ℕ → A) → ((i : ℕ) → i < n → f i ≡ g i) → tab n f ≡ tab n g
+  pub tab_cong : (n : ℕ) (f g : ℕ → A) → ((i : ℕ) → i < n → f i ≡ g i) → tab n f ≡ tab n g
   unfolding tab
-  tab-cong zero f g h = refl
-  tab-cong (suc n) f g h = rw (h zero (omega arith)) (ap (λ (l : List A). g zero ∷ l) (tab-cong n (λ k. f (suc k)) (λ k. g (suc k)) (λ i k. h (suc i) (omega arith))))
+  tab_cong zero f g h = refl
+  tab_cong (suc n) f g h = rw (h zero (omega arith)) (ap (λ (l : List A). g zero ∷ l) (tab_cong n (λ k. f (suc k)) (λ k. g (suc k)) (λ i k. h (suc i) (omega arith))))
 
-  pub tab-replicate : (n : ℕ) (a : A) → tab n (λ k. a) ≡ replicate n a
+  pub tab_replicate : (n : ℕ) (a : A) → tab n (λ k. a) ≡ replicate n a
   unfolding tab
-  tab-replicate zero a = refl
-  tab-replicate (suc n) a = ap (λ (l : List A). a ∷ l) (tab-replicate n a)
+  tab_replicate zero a = refl
+  tab_replicate (suc n) a = ap (λ (l : List A). a ∷ l) (tab_replicate n a)
 
   -- the first i numbers of d taken by f 0 .. f (i - 1): a loop that writes a slice in order
   unfoldable pub filled : (ℕ → A) → ℕ → List A → List A
@@ -68,25 +68,25 @@ module _ {ℓ} {A : Type ℓ} where
       go f zero (x ∷ d) h = refl
       go f (suc i) (x ∷ d) h = ap (λ (l : List A). f zero ∷ l) (go (λ k. f (suc k)) i d (le_of_suc-le-suc h))
 
-  pub filled-end : (f : ℕ → A) (n : ℕ) (d : List A) → length d ≡ n → filled f n d ≡ tab n f
+  pub filled_end : (f : ℕ → A) (n : ℕ) (d : List A) → length d ≡ n → filled f n d ≡ tab n f
   unfolding filled
-  filled-end f n d e = rw (← e, drop-length, append-nil)
+  filled_end f n d e = rw (← e, drop-length, append-nil)
 
   -- the m by n matrix of the entries f
   unfoldable pub table : ℕ → ℕ → (ℕ → ℕ → A) → List A
   table m n f = tab (m * n) (λ k. f (k / n) (k % n))
 
-  pub length-table : (m n : ℕ) (f : ℕ → ℕ → A) → length (table m n f) ≡ m * n
+  pub length_table : (m n : ℕ) (f : ℕ → ℕ → A) → length (table m n f) ≡ m * n
   unfolding table
-  length-table m n f = length-tab _ _
+  length_table m n f = length_tab _ _
 
   pub at_table : (m n : ℕ) (f : ℕ → ℕ → A) (i j : ℕ) (d : A) → i < m → j < n → get_or (table m n f) (i * n + j) d ≡ f i j
   unfolding table
-  at_table m n f i j d hi hj = getD-tab (m * n) _ (i * n + j) d (digits_lt hi hj) ∙ rw (digits_div i hj, digits_mod i hj)
+  at_table m n f i j d hi hj = get_or_tab (m * n) _ (i * n + j) d (digits_lt hi hj) ∙ rw (digits_div i hj, digits_mod i hj)
 
   -- a list of m * n numbers with those entries is that matrix
-  pub is-table : (m n : ℕ) (f : ℕ → ℕ → A) (l : List A) (d : A) → length l ≡ m * n → ((i j : ℕ) → i < m → j < n → get_or l (i * n + j) d ≡ f i j) → l ≡ table m n f
-  is-table m n f l d len h = ext_get_or d l (table m n f) (len ∙ sym (length-table m n f)) (λ k hk. one k (rw len at hk))
+  pub is_table : (m n : ℕ) (f : ℕ → ℕ → A) (l : List A) (d : A) → length l ≡ m * n → ((i j : ℕ) → i < m → j < n → get_or l (i * n + j) d ≡ f i j) → l ≡ table m n f
+  is_table m n f l d len h = ext_get_or d l (table m n f) (len ∙ sym (length_table m n f)) (λ k hk. one k (rw len at hk))
     where
       some : (k : ℕ) → k < m * n → 0 < n
       some k hk = ⊎_elim (λ e. let z : m * n ≡ 0 = ap (λ (x : ℕ). m * x) e ∙ mul-zero m in omega arith) (λ h. h) (eq-zero-or-pos n)
@@ -98,9 +98,9 @@ module _ {ℓ} {A : Type ℓ} where
           let hj : k % n < n = mod-lt k pos in
           subst (λ (x : ℕ). get_or l x d ≡ get_or (table m n f) x d) (div-add-mod' k n) (h _ _ hi hj ∙ sym (at_table m n f _ _ d hi hj))
 
-  pub table-cong : (m n : ℕ) (f g : ℕ → ℕ → A) → ((i j : ℕ) → i < m → j < n → f i j ≡ g i j) → table m n f ≡ table m n g
+  pub table_cong : (m n : ℕ) (f g : ℕ → ℕ → A) → ((i j : ℕ) → i < m → j < n → f i j ≡ g i j) → table m n f ≡ table m n g
   unfolding table
-  table-cong m n f g h = tab-cong (m * n) _ _ (λ k hk. h (k / n) (k % n) (row k hk) (mod-lt k (some k hk)))
+  table_cong m n f g h = tab_cong (m * n) _ _ (λ k hk. h (k / n) (k % n) (row k hk) (mod-lt k (some k hk)))
     where
       some : (k : ℕ) → k < m * n → 0 < n
       some k hk = ⊎_elim (λ e. let z : m * n ≡ 0 = ap (λ (x : ℕ). m * x) e ∙ mul-zero m in omega arith) (λ h. h) (eq-zero-or-pos n)

@@ -23,8 +23,8 @@ use Rattle.rule.specs.Rule.{reported, pruned, support}
 use Rattle.rule.specs.Fits.{keeps, clears, problem, fit_by, matrix_of, problem_of, fit_of}
 use Rattle.rule.specs.Sizes.{task_need, fit_sizes}
 use Rattle.rule.specs.Calls.{report_of, FitCall}
-use Rattle.rule.specs.Endings.{kept-is}
-use Rattle.rule.specs.Errors.{error-is}
+use Rattle.rule.specs.Endings.{kept_is}
+use Rattle.rule.specs.Errors.{error_is}
 use Rattle.rounds.specs.Ran.{CameTo}
 use Rattle.strlsq.specs.Ends.{Ends}
 
@@ -50,9 +50,9 @@ module _ (task : Task) (theta target : List Float) where
       let P = problem_of task theta target in
       let fit = fit_of task theta target in
       let word_of : kept.0 ≡ fit.kept
-      = k ∙ ap (word _) l ∙ ap (λ (c : List Float). word (λ j. keeps task.setup j (at c j)) task.cols) f.coeffs ∙ sym (kept-is P task.setup.max_iter) in
+      = k ∙ ap (word _) l ∙ ap (λ (c : List Float). word (λ j. keeps task.setup j (at c j)) task.cols) f.coeffs ∙ sym (kept_is P task.setup.max_iter) in
       let error-of : error ≡ fit.error
-      = q ∙ ap₂ (squared_error task.rows task.cols (matrix_of task theta) (at target)) word_of f.coeffs ∙ sym (error-is task (matrix_of task theta) (at target)) in
+      = q ∙ ap₂ (squared_error task.rows task.cols (matrix_of task theta) (at target)) word_of f.coeffs ∙ sym (error_is task (matrix_of task theta) (at target)) in
       rw (f.stop, f.refits) (ap₂ (λ (w : ℕ) (x : Float). record { stop = fit.stop; refits = fit.refits; kept = record { 0 = w }; error = x }) word_of error-of)
 
   -- a refusal leaves all unchanged
@@ -61,6 +61,6 @@ module _ (task : Task) (theta target : List Float) where
   fit_refused a w cs ws e t = record { sizes = a; judged = e; answer = rw t; coeffs = rw t; space = rw t }
 
   -- where nothing is refused
-  pub fit-accepted : (a : Answer) (cs cs' ws ws' : List Float) (r : Report) → a ≡ fit_sizes task (length theta) (length target) (length cs) (length ws) → a ≡ A.Done
+  pub fit_accepted : (a : Answer) (cs cs' ws ws' : List Float) (r : Report) → a ≡ fit_sizes task (length theta) (length target) (length cs) (length ws) → a ≡ A.Done
       → r ≡ report_of (fit_of task theta target) → cs' ≡ (fit_of task theta target).coeffs → ws' ≡ cleared (task_need task) ws → FitCall task theta target cs cs' ws ws' (F.Fit r)
-  fit-accepted a cs cs' ws ws' r e t p l q = record { sizes = a; judged = e; answer = rw t (ap F.Fit p); coeffs = rw t l; space = rw t q }
+  fit_accepted a cs cs' ws ws' r e t p l q = record { sizes = a; judged = e; answer = rw t (ap F.Fit p); coeffs = rw t l; space = rw t q }

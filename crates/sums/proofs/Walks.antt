@@ -13,13 +13,13 @@ use Rattle.sums.specs.Pages.{with_targets}
 
 module _ (page : List Float) (n : ℕ) (target : List Float) (i : ℕ) (s : List Float) where
   -- no row yet
-  pub targets-none : Filled n (with_targets page n 0 target i s) s
+  pub targets_none : Filled n (with_targets page n 0 target i s) s
   unfolding with_targets
-  targets-none = record { each = λ q b. sym (sum_none _ _ _) }
+  targets_none = record { each = λ q b. sym (sum_none _ _ _) }
 
   -- a row more: the products of x and the row's entries are added
-  pub targets-more : (k : ℕ) (x : Float) (t t' : List Float) → Wrote (λ q. q) 0 n (λ q. plus (at t q) (times x (cell n page k q))) t t' → x ≡ at target (i + k) →
+  pub targets_more : (k : ℕ) (x : Float) (t t' : List Float) → Wrote (λ q. q) 0 n (λ q. plus (at t q) (times x (cell n page k q))) t t' → x ≡ at target (i + k) →
       Filled n (with_targets page n k target i s) t → Filled n (with_targets page n (k + 1) target i s) t'
   unfolding with_targets
-  targets-more k x t t' w e l =
+  targets_more k x t t' w e l =
       record { each = λ q b. w.done q (omega arith) b ∙ sum_more _ 0 k _ (omega arith) (l.each q b) (times_comm binary64 x (cell n page k q) ∙ ap (times (cell n page k q)) e) }

@@ -7,7 +7,7 @@ use Rattle.std.proofs.Math.Arith.{digits_lt}
 use Rattle.std.specs.Float.{nan}
 use Rattle.steps.specs.Num.{times, +zero, Entry, at, cell}
 use Rattle.steps.specs.Sums.{sum, sum_none, sum_cong, sum_on}
-use Rattle.steps.specs.Table.{table, is-table, is-tab}
+use Rattle.steps.specs.Table.{table, is_table, is_tab}
 use Rattle.steps.specs.Rows.{Rows}
 use Rattle.steps.specs.Wrote.{Wrote}
 use Rattle.pairs.specs.Grown.{grown, Grew}
@@ -79,13 +79,13 @@ products_more e n i h page target s t o m g =
 
 pub products_end : (n : ℕ) (g : ℕ → Float) (s : List Float) → length s ≡ n → Filled n g s → s ≡ jtr_column n g
 unfolding jtr_column
-products_end n g s len l = is-tab n g s nan len l.each
+products_end n g s len l = is_tab n g s nan len l.each
 
 -- every row mirrored
 pub mirror_end : (e : Entry) (n rows : ℕ) (s t : List Float) → UpperSums e n rows s → Rows n n (upper n s) s n t → t ≡ table n n (gram e rows)
 unfolding upper
 mirror_end e n rows s t m w =
-    is-table n n (gram e rows) t nan (w.long ∙ m.square) (λ r c hr hc. w.new r c hr hc ∙ m.each (min r c) (max r c) (omega arith) (omega arith) ∙ both r c)
+    is_table n n (gram e rows) t nan (w.long ∙ m.square) (λ r c hr hc. w.new r c hr hc ∙ m.each (min r c) (max r c) (omega arith) (omega arith) ∙ both r c)
   where
     -- one sum serves both entries
     both : (r c : ℕ) → gram e rows (min r c) (max r c) ≡ gram e rows r c

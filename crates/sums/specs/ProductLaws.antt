@@ -5,7 +5,7 @@ use Rattle.std.specs.Float.{Format, nan, inf, fin, binary64}
 use Rattle.std.specs.Float.Ieee.{mul, round, up, down, unlike}
 use Rattle.steps.specs.Num.{times, Entry, cell}
 use Rattle.steps.specs.Sums.{sum_cong}
-use Rattle.steps.specs.Table.{table, at_table, table-cong}
+use Rattle.steps.specs.Table.{table, at_table, table_cong}
 use Rattle.sums.specs.Products.{gram, moment, damped, jtj_matrix}
 
 unlike_comm : (s t : Bool) → unlike s t ≡ unlike t s
@@ -45,7 +45,7 @@ moment_cong e f t rows p h = sum_cong _ 0 rows _ _ (λ i a b. ap (λ (x : Float)
 -- equal sums give equal matrices
 pub jtj_cong : (damp : Float → Float) (k : ℕ) (g h : Entry) → ((p q : ℕ) → p < k → q < k → g p q ≡ h p q) → jtj_matrix damp k g ≡ jtj_matrix damp k h
 unfolding jtj_matrix damped
-jtj_cong damp k g h e = table-cong k k _ _ (λ p q hp hq. rw (e p q hp hq))
+jtj_cong damp k g h e = table_cong k k _ _ (λ p q hp hq. rw (e p q hp hq))
 
 -- damping the finished matrix damps the sums
 pub damped_table : (damp : Float → Float) (k : ℕ) (g : Entry) → jtj_matrix damp k (cell k (table k k g)) ≡ jtj_matrix damp k g

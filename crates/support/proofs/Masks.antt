@@ -31,12 +31,12 @@ module _ (op low : ℕ → ℕ → ℕ) (test : Bool → Bool → Bool) (bits : 
       last x true = ap (λ (y : ℕ). eqb y 1) (digits_mod x (lit< tt))
       last x false = ap (λ (y : ℕ). eqb y 1) (digits_mod x (lit< tt))
 
-  has-op : (a b k : ℕ) → has (op a b) k ≡ test (has a k) (has b k)
+  has_op : (a b k : ℕ) → has (op a b) k ≡ test (has a k) (has b k)
   unfolding has
-  has-op a b k = ap (λ (x : ℕ). eqb (x % 2) 1) (shr a b k) ∙ low_digit (a / 2 ^ k) (b / 2 ^ k)
+  has_op a b k = ap (λ (x : ℕ). eqb (x % 2) 1) (shr a b k) ∙ low_digit (a / 2 ^ k) (b / 2 ^ k)
 
 has_or : (a b k : ℕ) → has (bit_or a b) k ≡ (has a k || has b k)
-has_or = has-op bit_or max ◌||◌ bits or_step or_shr
+has_or = has_op bit_or max ◌||◌ bits or_step or_shr
   where
     bits : (x y : Bool) → max (bit x) (bit y) ≡ bit (x || y)
     bits true true = refl
@@ -45,7 +45,7 @@ has_or = has-op bit_or max ◌||◌ bits or_step or_shr
 
 has_xor : (a b k : ℕ) → has (bit_xor a b) k ≡ xor (has a k) (has b k)
 unfolding xor
-has_xor = has-op bit_xor differ xor bits xor_step xor_shr
+has_xor = has_op bit_xor differ xor bits xor_step xor_shr
   where
     bits : (x y : Bool) → differ (bit x) (bit y) ≡ bit (xor x y)
     bits true true = refl

@@ -9,7 +9,7 @@ use Rattle.rule.specs.Tasks.{setup_of, task_of}
 use Rattle.rule.specs.Sizes.{fit_need, limits, lengths, fit_sizes}
 use Rattle.rule.specs.Calls.{FitCall}
 use Rattle.rule.specs.declared.Task.{Task}
-use Rattle.rule.specs.Demand3.{Few, refits-of, calls_stable, calls-bounded}
+use Rattle.rule.specs.Demand3.{Few, refits_of, calls_stable, calls_bounded}
 use Rattle.rule.specs.declared.Solver.TheVariants.{Normal}
 use Rattle.rule.specs.declared.Stop.TheVariants.{Settled}
 use Rattle.rule.specs.declared.Report.{Report}
@@ -38,6 +38,6 @@ unfolding fit_need
 F1_stable = calls_stable (task1 2) theta1 target1 F1_call (λ e. let z : ◌≡◌ {A = ℕ} 0 1 = cc in absurd (omega arith))
 
 -- its threshold is above zero: the report counts the refits, and they are few
-pub F1_bounded : Few (refits-of (task1 2) theta1 target1 2) 2 2 settled
+pub F1_bounded : Few (refits_of (task1 2) theta1 target1 2) 2 2 settled
 unfolding fits
-F1_bounded = calls-bounded (task1 2) theta1 target1 tt F1_call
+F1_bounded = calls_bounded (task1 2) theta1 target1 tt F1_call

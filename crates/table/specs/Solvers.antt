@@ -23,7 +23,7 @@ use Rattle.least.specs.Least as M
 -- all that a case computes with: `unfolding opened` opens it
 unfoldable pub opened : Unit {0}
 unfolding of_bits add sub neg mul div lt le eq round size sum is_nan
-    L.turns L.loop L.down-from L.way L.way_down S.sum S.less_sum T.tab T.table P.swapped
+    L.turns L.loop L.down_from L.way L.way_down S.sum S.less_sum T.tab T.table P.swapped
     R.isqrt R.units R.nearest_root R.root_of R.abs_of R.greater_of
     D.led D.along Q.sign Q.share Q.lose Q.store Q.reflect Q.pushed Q.normed Q.column Q.after Q.beta Q.betas X.qt_column X.qt
     C.scale C.reduced C.chol_below C.chol_store C.chol_column C.chol_factor C.forward_at C.back_at C.chol_forward C.chol_back C.chol_end C.cholesky

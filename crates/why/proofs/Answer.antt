@@ -22,18 +22,18 @@ use Rattle.why.specs.Calls.{WhyCall}
 
 module _ (task : Task) (theta target : List Float) (j : ℕ) where
   -- what the fit saw of the term, and how it ended, make the cause
-  pub cause-found : {stop : Stop} {refits : ℕ} {drop : Drop} {last : Float} {cs : List Float} → Ends (fit_of task theta target) stop refits cs
+  pub cause_found : {stop : Stop} {refits : ℕ} {drop : Drop} {last : Float} {cs : List Float} → Ends (fit_of task theta target) stop refits cs
       → Saw (problem_of task theta target) task.setup.max_iter j drop last
       → caused (keeps task.setup 0) drop stop refits last ≡ cause_of task theta target j
   unfolding cause fit_by problem keeps
-  cause-found f s = rw (s.drops, s.value, f.stop, f.refits) refl
+  cause_found f s = rw (s.drops, s.value, f.stop, f.refits) refl
 
   -- a refusal leaves all unchanged
-  pub why-refused : (a : Answer) (w : Refusal) (cs ws : List Float) → a ≡ why_sizes task j (length theta) (length target) (length cs) (length ws) → a ≡ A.Refused w
+  pub why_refused : (a : Answer) (w : Refusal) (cs ws : List Float) → a ≡ why_sizes task j (length theta) (length target) (length cs) (length ws) → a ≡ A.Refused w
       → WhyCall task j theta target cs cs ws ws (C.Refused w)
-  why-refused a w cs ws e t = record { sizes = a; judged = e; answer = rw t; coeffs = rw t; space = rw t }
+  why_refused a w cs ws e t = record { sizes = a; judged = e; answer = rw t; coeffs = rw t; space = rw t }
 
   -- where nothing is refused
-  pub why-accepted : (a : Answer) (cs cs' ws ws' : List Float) (c : Cause) → a ≡ why_sizes task j (length theta) (length target) (length cs) (length ws) → a ≡ A.Done
+  pub why_accepted : (a : Answer) (cs cs' ws ws' : List Float) (c : Cause) → a ≡ why_sizes task j (length theta) (length target) (length cs) (length ws) → a ≡ A.Done
       → c ≡ cause_of task theta target j → cs' ≡ (fit_of task theta target).coeffs → ws' ≡ cleared (task_need task) ws → WhyCall task j theta target cs cs' ws ws' (C.Because c)
-  why-accepted a cs cs' ws ws' c e t f g q = record { sizes = a; judged = e; answer = rw t (ap C.Because f); coeffs = rw t g; space = rw t q }
+  why_accepted a cs cs' ws ws' c e t f g q = record { sizes = a; judged = e; answer = rw t (ap C.Because f); coeffs = rw t g; space = rw t q }

@@ -1,7 +1,7 @@
 -- What the question why is answered, and what it leaves. Assumes nothing.
 use Rattle.std.specs.Prelude.{◌≡◌, List, ℕ, length, Float}
 use Rattle.steps.specs.Space.{cleared}
-use Rattle.refusal.specs.Answers.{if-done}
+use Rattle.refusal.specs.Answers.{if_done}
 use Rattle.refusal.specs.declared.Answer.{Answer}
 use Rattle.refusal.specs.declared.Answer.TheVariants.{Done, Refused}
 use Rattle.rule.specs.Fits.{fit_of}
@@ -24,5 +24,5 @@ pub record WhyCall (task : Task) (j : ℕ) (theta target cs cs' w w' : List Floa
   pub sizes : Answer
   pub judged : sizes ≡ why_sizes task j (length theta) (length target) (length cs) (length w)
   pub answer : r ≡ explained sizes (cause_of task theta target j)
-  pub coeffs : cs' ≡ if-done sizes (fit_of task theta target).coeffs cs
-  pub space : w' ≡ if-done sizes (cleared (task_need task) w) w
+  pub coeffs : cs' ≡ if_done sizes (fit_of task theta target).coeffs cs
+  pub space : w' ≡ if_done sizes (cleared (task_need task) w) w

@@ -12,7 +12,7 @@ use Rattle.rule.specs.Tasks.{laid}
 use Rattle.rule.specs.Rule.{Problem, State, going, done, support, rounds}
 use Rattle.rule.specs.Dropped.{drops, or_else, dropped}
 use Rattle.rule.specs.Fits.{problem, problem_by, matrix_of}
-use Rattle.rule.specs.SameFit.{resolved, same-rounds, same-fit, whole-agrees, solve-agrees, error-agrees}
+use Rattle.rule.specs.SameFit.{resolved, same_rounds, same_fit, whole_agrees, solve_agrees, error_agrees}
 use Rattle.rule.specs.Sizes.{limits, lengths}
 use Rattle.rule.specs.Layouts.{theta_of, layouts_alike}
 use Rattle.why.specs.declared.Caused.{Caused}
@@ -26,25 +26,25 @@ module _ (P : Problem) (a : Solution) (f : ℕ → Solution) (g : ℕ → List F
   abbrev Q : Problem
   Q = resolved P a f g
 
-  same-drops : (j : ℕ) (s : State) → drops P j s ≡ drops Q j s
+  same_drops : (j : ℕ) (s : State) → drops P j s ≡ drops Q j s
   unfolding drops support
-  same-drops j (going cs ws) = refl
-  same-drops j (done t cs ws) = refl
+  same_drops j (going cs ws) = refl
+  same_drops j (done t cs ws) = refl
 
-  same-dropped : (j r : ℕ) → dropped P j r ≡ dropped Q j r
+  same_dropped : (j r : ℕ) → dropped P j r ≡ dropped Q j r
   unfolding dropped
-  same-dropped j zero = refl
-  same-dropped j (suc r) = ap₂ or_else (same-dropped j r) (same-drops j (rounds P r) ∙ ap (drops Q j) (same-rounds P a f g whole solve errs r))
+  same_dropped j zero = refl
+  same_dropped j (suc r) = ap₂ or_else (same_dropped j r) (same_drops j (rounds P r) ∙ ap (drops Q j) (same_rounds P a f g whole solve errs r))
 
-  same-cause : (limit j : ℕ) → cause P limit j ≡ cause Q limit j
+  same_cause : (limit j : ℕ) → cause P limit j ≡ cause Q limit j
   unfolding cause
-  same-cause limit j = rw (same-dropped j limit, same-fit P a f g whole solve errs limit, same-rounds P a f g whole solve errs limit)
+  same_cause limit j = rw (same_dropped j limit, same_fit P a f g whole solve errs limit, same_rounds P a f g whole solve errs limit)
 
 -- a cause looks only at the entries of the rows and columns
 pub cause_entries : (task : Task) (e f : Entry) (t : ℕ → Float) → ((i j : ℕ) → i < task.rows → j < task.cols → e i j ≡ f i j)
     → (limit j : ℕ) → cause (problem_by task e t) limit j ≡ cause (problem_by task f t) limit j
 unfolding problem
-cause_entries task e f t h = same-cause (problem_by task e t) _ _ _ (whole-agrees task e f t h) (solve-agrees task e f t h) (error-agrees task e f t h)
+cause_entries task e f t h = same_cause (problem_by task e t) _ _ _ (whole_agrees task e f t h) (solve_agrees task e f t h) (error_agrees task e f t h)
 
 -- however a matrix is stored, the cause of a term is that by its entries
 pub cause_stored : (task : Task) (e : Entry) (target : List Float) (j : ℕ)

@@ -17,7 +17,7 @@ use Rattle.rule.specs.declared.Drop.{Drop}
 use Rattle.rule.specs.declared.Drop.TheVariants.{Never, Before}
 use Rattle.why.specs.Truth.{InEach, InNone, DroppedAt}
 use Rattle.why.specs.Sharp.{Sharp, clash, contrary, not_in_zeros}
-use Rattle.why.specs.Seen.{Stayed, Seen, drops-now, dropped-still}
+use Rattle.why.specs.Seen.{Stayed, Seen, drops_now, dropped_still}
 
 -- what is not in a word is in no subset of it
 not_within : (j w v : ℕ) → Sub w v → has v j ≡ false → has w j ≡ false
@@ -61,14 +61,14 @@ module _ {P : Problem} {j : ℕ} (sharp : Sharp P j) where
   step : (r : ℕ) (d : Drop) (s : State) → rounds P r ≡ s → Seen P j r d s → Seen P j (suc r) (or_else d (drops P j s)) (round P s)
   unfolding rounds round refitted or_else drops
   step r Never (done t cs ws) e i = i
-  step r (Before k c) (done t cs ws) e i = (dropped-still P j r i.0 [] (ap past (ap (round P) e ∙ sym e)) tt, i.1, i.2)
+  step r (Before k c) (done t cs ws) e i = (dropped_still P j r i.0 [] (ap past (ap (round P) e ∙ sym e)) tt, i.1, i.2)
   step r (Before k c) (going cs ws) e i =
-      unfound r cs ws i.2 (λ news q n. dropped-still P j r i.0 news (q ∙ ap (λ s. news ++ past s) (sym e)) n) (ap (round P) e)
+      unfound r cs ws i.2 (λ news q n. dropped_still P j r i.0 news (q ∙ ap (λ s. news ++ past s) (sym e)) n) (ap (round P) e)
   step r Never (going cs ws) e i = by (has (support P cs) j) refl
     where
       by : (b : Bool) → has (support P cs) j ≡ b → Seen P j (suc r) (cond b Never (Before (suc (length ws)) (at cs j))) (look P cs ws (support P cs))
       by true f = found cs ws i f
-      by false u = unfound r cs ws u (drops-now P j r e i u) (ap (round P) e)
+      by false u = unfound r cs ws u (drops_now P j r e i u) (ap (round P) e)
 
   -- the first solve drops nothing
   begun : Stayed P j (start P)

@@ -19,8 +19,8 @@ use Rattle.why.specs.declared.Cause.TheVariants.{Kept}
 use Rattle.why.specs.Cause.{cause}
 use Rattle.why.specs.Truth.{Truly}
 use Rattle.why.specs.Sharp.{Sharp, contrary, nan_is}
-use Rattle.why.specs.TrueCause.{true-cause}
-use Rattle.why.specs.OnlyCause.{only-cause, kept-cause}
+use Rattle.why.specs.TrueCause.{true_cause}
+use Rattle.why.specs.OnlyCause.{only_cause, kept_cause}
 
 -- of any task, matrix and target, a threshold above zero, and a term
 module _ (task : Task) (e : Entry) (t : ℕ → Float) (above_zero : T (lt +zero task.setup.threshold)) (j : ℕ) (below : j < task.cols) where
@@ -50,14 +50,14 @@ module _ (task : Task) (e : Entry) (t : ℕ → Float) (above_zero : T (lt +zero
       number c = contrary _ _ (λ n. ap (λ x. le threshold (abs_of x)) (sym (nan_is c n)) ∙ nan_below threshold)
 
   -- the given cause is true
-  pub why-true : Truly P limit j (cause P limit j)
-  why-true = true-cause sharp limit
+  pub why_true : Truly P limit j (cause P limit j)
+  why_true = true_cause sharp limit
 
   -- and no other is
-  pub why-only : (c : Cause) → Truly P limit j c → c ≡ cause P limit j
-  why-only = only-cause sharp limit
+  pub why_only : (c : Cause) → Truly P limit j c → c ≡ cause P limit j
+  why_only = only_cause sharp limit
 
   -- kept is the cause exactly if the report's kept word has the term
-  pub why-kept : (cause P limit j ≡ Kept) ↔ (has (fit_by task e t).kept j ≡ true)
+  pub why_kept : (cause P limit j ≡ Kept) ↔ (has (fit_by task e t).kept j ≡ true)
   unfolding fit_by
-  why-kept = kept-cause sharp limit
+  why_kept = kept_cause sharp limit

@@ -4,7 +4,7 @@ use Rattle.std.proofs.Common.{sym, ap, ◌∙◌, subst, append_assoc, arith}
 use Rattle.steps.specs.Num.{at}
 use Rattle.support.specs.Word.{has}
 use Rattle.rule.specs.Rule.{Problem, State, going, done, support, rounds, refitted, coeffs_of}
-use Rattle.rule.specs.Stable.{goes-counted}
+use Rattle.rule.specs.Stable.{goes_counted}
 use Rattle.rule.specs.declared.Stop.TheVariants.{NoData, FirstRefused, Empty, RefitRefused, Settled, OutOfRounds}
 use Rattle.rule.specs.declared.Drop.{Drop}
 use Rattle.rule.specs.declared.Drop.TheVariants.{Never, Before}
@@ -32,33 +32,33 @@ module _ (P : Problem) (j : ℕ) where
   Seen r (Before k c) s = DroppedAt P r j k c × (Stayed s → ⊥) × (has (support P (coeffs_of s)) j ≡ false)
 
   -- a look of this round drops it
-  pub drops-now : (r : ℕ) {cs : List Float} {ws : List ℕ} → rounds P r ≡ going cs ws → InEach j ws → has (support P cs) j ≡ false
+  pub drops_now : (r : ℕ) {cs : List Float} {ws : List ℕ} → rounds P r ≡ going cs ws → InEach j ws → has (support P cs) j ≡ false
       → (news : List ℕ) → refitted P (suc r) ≡ news ++ ws → InNone j news → DroppedAt P (suc r) j (suc (length ws)) (at cs j)
-  drops-now r {cs} {ws} e i u news q n = record {
+  drops_now r {cs} {ws} e i u news q n = record {
     before = ws;
     after = news;
     coeffs = cs;
     refits = q;
-    in-each-before = i;
-    in-none-after = n;
-    in-limit = omega (arith, goes-counted P r e);
-    looks = subst (λ (m : ℕ). rounds P m ≡ going cs ws) (sym (goes-counted P r e)) e;
+    in_each_before = i;
+    in_none_after = n;
+    in_limit = omega (arith, goes_counted P r e);
+    looks = subst (λ (m : ℕ). rounds P m ≡ going cs ws) (sym (goes_counted P r e)) e;
     number = refl;
     saw = refl;
     unfound = u;
   }
 
   -- one dropped before stays so in a round more
-  pub dropped-still : (r : ℕ) {k : ℕ} {c : Float} → DroppedAt P r j k c
+  pub dropped_still : (r : ℕ) {k : ℕ} {c : Float} → DroppedAt P r j k c
       → (news : List ℕ) → refitted P (suc r) ≡ news ++ refitted P r → InNone j news → DroppedAt P (suc r) j k c
-  dropped-still r d news q n = record {
+  dropped_still r d news q n = record {
     before = d.before;
     after = news ++ d.after;
     coeffs = d.coeffs;
     refits = q ∙ ap (λ (ws : List ℕ). news ++ ws) d.refits ∙ sym (append_assoc news d.after d.before);
-    in-each-before = d.in-each-before;
-    in-none-after = both_none j news d.after n d.in-none-after;
-    in-limit = omega (arith, d.in-limit);
+    in_each_before = d.in_each_before;
+    in_none_after = both_none j news d.after n d.in_none_after;
+    in_limit = omega (arith, d.in_limit);
     looks = d.looks;
     number = d.number;
     saw = d.saw;

@@ -8,7 +8,7 @@ use Rattle.std.specs.Float.Ieee.{nan, is_nan}
 use Rattle.std.specs.Float.{inf, fin}
 use Rattle.steps.specs.Num.{+zero, at}
 use Rattle.steps.specs.Cond.{either}
-use Rattle.steps.specs.Table.{getD-tab}
+use Rattle.steps.specs.Table.{get_or_tab}
 use Rattle.support.specs.Word.{has}
 use Rattle.support.specs.WordLaws.{has_word}
 use Rattle.rule.specs.Rule.{Problem, State, going, done, zeros, support, rounds, pruned, reported, finish, fit, coeffs_of}
@@ -69,7 +69,7 @@ module _ {P : Problem} {j : ℕ} (sharp : Sharp P j) where
       same : (cs : List Float) → has (support P (pruned P cs)) j ≡ has (support P cs) j
       same cs =
           let c = at cs j in
-          finds _ ∙ ap (P.keeps j) (getD-tab P.cols _ j nan sharp.below)
+          finds _ ∙ ap (P.keeps j) (get_or_tab P.cols _ j nan sharp.below)
           ∙ either (λ x. P.keeps j x ≡ P.keeps j c) (P.clears j c) +zero c (λ t. sharp.zero_out ∙ sym (cleared_out c t)) (λ t. refl)
           ∙ sym (finds cs)
 

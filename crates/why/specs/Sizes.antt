@@ -43,9 +43,9 @@ module _ (task : Task) (j theta target coeffs space : ℕ) (e : why_sizes task j
   rest = both_done (asks task j) _ (both_done (limits 64 4096 task) _ e).1
 
   -- the threshold is above zero, and the term is one of the columns
-  pub why-asked : T (lt +zero task.setup.threshold) × (j < task.cols)
+  pub why_asked : T (lt +zero task.setup.threshold) × (j < task.cols)
   unfolding asks
-  why-asked =
+  why_asked =
       let both = both_done (low_threshold task.setup) _ rest.0 in
       let there = not_refused (not (ltb j task.cols)) NoSuchTerm Done both.1 in
       (above_zero task.setup both.0, ltb-true j task.cols (not-false _ there.0))

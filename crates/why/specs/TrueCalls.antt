@@ -11,9 +11,9 @@ use Rattle.why.specs.declared.Cause.{Cause}
 use Rattle.why.specs.declared.Caused.TheVariants as C
 use Rattle.why.specs.Cause.{cause_of}
 use Rattle.why.specs.Truth.{Truly}
-use Rattle.why.specs.Sizes.{why-asked}
+use Rattle.why.specs.Sizes.{why_asked}
 use Rattle.why.specs.Calls.{explained, WhyCall}
-use Rattle.why.specs.Promises.{why-true, why-only}
+use Rattle.why.specs.Promises.{why_true, why_only}
 
 -- a cause is answered only where nothing is refused
 because_done : (a : Answer) (c d : Cause) → C.Because c ≡ explained a d → (a ≡ Done) × (c ≡ d)
@@ -26,12 +26,12 @@ module _ {task : Task} {j : ℕ} {theta target cs cs' w w' : List Float} {c : Ca
   told = because_done call.sizes c _ call.answer
 
   asked : T (lt +zero task.setup.threshold) × (j < task.cols)
-  asked = why-asked task j _ _ _ _ (sym call.judged ∙ told.0)
+  asked = why_asked task j _ _ _ _ (sym call.judged ∙ told.0)
 
   -- it is true of the fit
-  pub calls-true : Truly (problem_of task theta target) task.setup.max_iter j c
-  calls-true = subst (Truly _ _ j) (sym told.1) (why-true task (matrix_of task theta) (at target) asked.0 j asked.1)
+  pub calls_true : Truly (problem_of task theta target) task.setup.max_iter j c
+  calls_true = subst (Truly _ _ j) (sym told.1) (why_true task (matrix_of task theta) (at target) asked.0 j asked.1)
 
   -- and no other cause is
-  pub calls-only : (d : Cause) → Truly (problem_of task theta target) task.setup.max_iter j d → d ≡ c
-  calls-only d t = why-only task (matrix_of task theta) (at target) asked.0 j asked.1 d t ∙ sym told.1
+  pub calls_only : (d : Cause) → Truly (problem_of task theta target) task.setup.max_iter j d → d ≡ c
+  calls_only d t = why_only task (matrix_of task theta) (at target) asked.0 j asked.1 d t ∙ sym told.1

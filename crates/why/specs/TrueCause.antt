@@ -38,19 +38,19 @@ by_stop keeps S.OutOfRounds n c z = refl
 
 module _ {P : Problem} {j : ℕ} (sharp : Sharp P j) (limit : ℕ) where
   -- by the last value: kept where a look keeps it, and otherwise as the last pass left it
-  by-last-value : (cs : List Float) → coeffs_of (rounds P limit) ≡ cs → (P.keeps j (at cs j) ≡ false → (c : Float) → c ≡ at cs j → LastAt P limit j c)
+  by_last_value : (cs : List Float) → coeffs_of (rounds P limit) ≡ cs → (P.keeps j (at cs j) ≡ false → (c : Float) → c ≡ at cs j → LastAt P limit j c)
       → Truly P limit j (by_value (P.keeps j) (at cs j))
   unfolding by_value
-  by-last-value cs q last =
+  by_last_value cs q last =
       let c = at cs j in
       let A = Truly P limit j in
       either A (P.keeps j c) _ _ (λ k. kept_found sharp limit ∙ ap (λ (x : List Float). has (support P x) j) q ∙ finds sharp cs ∙ k)
       (λ k. either A (is_nan c) _ _ (λ n. last k nan (nan_is c n)) (λ n. (last k c refl, sharp.rest_cleared c k n)))
 
   -- rounds used up: a term of every refit that the last look does not find left OutOfRounds
-  out-of-rounds : (cs : List Float) (ws : List ℕ) → InEach j ws → has (support P cs) j ≡ false → last_stop P cs ws ≡ S.OutOfRounds
+  out_of_rounds : (cs : List Float) (ws : List ℕ) → InEach j ws → has (support P cs) j ≡ false → last_stop P cs ws ≡ S.OutOfRounds
   unfolding last_look
-  out-of-rounds cs ws i u =
+  out_of_rounds cs ws i u =
       let A : Stop → Type 0 = λ t. t ≡ S.OutOfRounds in
       let w = support P cs in
       either A (eqb (length ws) 0) _ _ (λ z. refl)
@@ -58,9 +58,9 @@ module _ {P : Problem} {j : ℕ} (sharp : Sharp P j) (limit : ℕ) where
       (λ t. absurd (clash (ap (λ (v : ℕ). has v j) (eqb-true w (latest ws) t) ∙ in_latest j ws (eqb-false _ 0 z) i) u)) (λ t. refl))
 
   -- the given cause is true
-  pub true-cause : Truly P limit j (cause P limit j)
+  pub true_cause : Truly P limit j (cause P limit j)
   unfolding cause caused undropped fit finish reported refitted
-  true-cause = go (dropped P j limit) (rounds P limit) refl (seen sharp limit)
+  true_cause = go (dropped P j limit) (rounds P limit) refl (seen sharp limit)
     where
       stop_is : {s : State} → rounds P limit ≡ s → (fit P limit).stop ≡ (finish P s).stop
       stop_is e = ap (λ s. (finish P s).stop) e
@@ -70,17 +70,17 @@ module _ {P : Problem} {j : ℕ} (sharp : Sharp P j) (limit : ℕ) where
       go (Before k c) s e i = i.0
       go Never (going cs ws) e i =
           subst (Truly P limit j) (sym (by_stop _ (last_stop P cs ws) _ _ (unzeroed (length ws) (latest ws) (support P cs))))
-          (by-last-value cs (ap coeffs_of e) (λ k c v. record {
+          (by_last_value cs (ap coeffs_of e) (λ k c v. record {
             coeffs = cs;
-            stop = stop_is e ∙ out-of-rounds cs ws i (finds sharp cs ∙ k);
+            stop = stop_is e ∙ out_of_rounds cs ws i (finds sharp cs ∙ k);
             over = e ∙ ap (λ s. going cs (past s)) (sym e);
-            in-each = subst (λ s. InEach j (past s)) (sym e) i;
+            in_each = subst (λ s. InEach j (past s)) (sym e) i;
             value = v;
           }))
       go Never (done S.NoData cs ws) e i = stop_is e
       go Never (done (S.FirstRefused t) cs ws) e i = record { term = t; stop = stop_is e }
       go Never (done S.Empty cs ws) e i = absurd i
       go Never (done (S.RefitRefused t) cs ws) e i =
-          record { term = t; stop = stop_is e; in-each = subst (λ s. InEach j (past s)) (sym e) i; number = ap (λ s. length (past s)) (sym e) }
-      go Never (done S.Settled cs ws) e i = by-last-value cs (ap coeffs_of e) (λ k. absurd (clash i.1 (finds sharp cs ∙ k)))
+          record { term = t; stop = stop_is e; in_each = subst (λ s. InEach j (past s)) (sym e) i; number = ap (λ s. length (past s)) (sym e) }
+      go Never (done S.Settled cs ws) e i = by_last_value cs (ap coeffs_of e) (λ k. absurd (clash i.1 (finds sharp cs ∙ k)))
       go Never (done S.OutOfRounds cs ws) e i = absurd i

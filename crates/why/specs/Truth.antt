@@ -29,10 +29,10 @@ module _ (P : Problem) (limit j : ℕ) where
     pub coeffs : List Float
     pub refits : refitted P limit ≡ after ++ before
     -- the term was in every earlier refit and in none after
-    pub in-each-before : InEach j before
-    pub in-none-after : InNone j after
+    pub in_each_before : InEach j before
+    pub in_none_after : InNone j after
     -- the look is that of a round, before refit number r: one past the last refit if the look found nothing
-    pub in-limit : length before < limit
+    pub in_limit : length before < limit
     pub looks : rounds P (length before) ≡ going coeffs before
     pub number : r ≡ suc (length before)
     -- it saw this coefficient, and did not find the term
@@ -43,7 +43,7 @@ module _ (P : Problem) (limit j : ℕ) where
   pub record ClearedAt (r : ℕ) : Type 0 where
     pub term : Term
     pub stop : (fit P limit).stop ≡ S.RefitRefused term
-    pub in-each : InEach j (refitted P limit)
+    pub in_each : InEach j (refitted P limit)
     pub number : r ≡ length (refitted P limit)
 
   -- in every refit when the rounds were used up, with the value c before the last pass
@@ -51,7 +51,7 @@ module _ (P : Problem) (limit j : ℕ) where
     pub coeffs : List Float
     pub stop : (fit P limit).stop ≡ S.OutOfRounds
     pub over : rounds P limit ≡ going coeffs (refitted P limit)
-    pub in-each : InEach j (refitted P limit)
+    pub in_each : InEach j (refitted P limit)
     pub value : c ≡ at coeffs j
 
   -- the first solve was refused

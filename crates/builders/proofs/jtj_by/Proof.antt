@@ -2,7 +2,7 @@
 use mathlib.Core.Path.{sym, ◌∙◌}
 use borrow.Author.Rules.{rules}
 use Rattle.sums.specs.ProductLaws.{damped_table}
-use Rattle.builders.specs.Sizes.{jtj-fits}
+use Rattle.builders.specs.Sizes.{jtj_fits}
 use Rattle.builders.proofs.jtj_by.Statement.{statement}
 use Rattle.builders.proofs.jtj_by.Tie as tie
 
@@ -21,13 +21,13 @@ returns c = search rules
 jtj-sums-requires : tie.Need-jtj-sums-requires
 jtj-sums-requires c κs =
     let accepted = c.before in
-    jtj-fits accepted.before.before.jtj_sizes.ensures accepted.enum_told.given.1
+    jtj_fits accepted.before.before.jtj_sizes.ensures accepted.enum_told.given.1
 
 damp-requires : tie.Need-damp-requires
 damp-requires c κs =
     let summed = c.before.before.before in
     let accepted = summed.before.before in
-    let fits = jtj-fits accepted.before.before.jtj_sizes.ensures accepted.enum_told.given.1 in
+    let fits = jtj_fits accepted.before.before.jtj_sizes.ensures accepted.enum_told.given.1 in
     summed.jtj-sums.auto.1.1.1.0 ∙ fits.1
 
 same_length : tie.Need-same-length

@@ -1,7 +1,7 @@
 -- `jtr` meets its contract: refused by its sizes, else the target products.
 use mathlib.Core.Path.{sym, ◌∙◌}
 use borrow.Author.Rules.{rules}
-use Rattle.builders.specs.Sizes.{jtr-fits}
+use Rattle.builders.specs.Sizes.{jtr_fits}
 use Rattle.builders.proofs.jtr.Statement.{statement}
 use Rattle.builders.proofs.jtr.Tie as tie
 
@@ -18,7 +18,7 @@ returns : tie.Need-returns
 returns c = search rules
 
 jtr-sums-requires : tie.Need-jtr-sums-requires
-jtr-sums-requires c κs = let accepted = c.before in jtr-fits accepted.before.before.jtr_sizes.ensures accepted.enum_told.given.1
+jtr-sums-requires c κs = let accepted = c.before in jtr_fits accepted.before.before.jtr_sizes.ensures accepted.enum_told.given.1
 
 same_length : tie.Need-same-length
 same_length c = search rules

@@ -5,7 +5,7 @@ use Rattle.float64.specs.Root.{root_of}
 use Rattle.float64.specs.Rule.{SqrtCall}
 use Rattle.float64.proofs.Rule.{root_call}
 use Rattle.float64.proofs.Tests.{is_nan_lem, no_nan, below_inf}
-use Rattle.float64.proofs.Values.{in-range, value}
+use Rattle.float64.proofs.Values.{in_range, value}
 use Rattle.float64.proofs.Ways.{root_nan, root_zero, root_neg, root_inf, root_of_units}
 use Rattle.float64.proofs.sqrt.Statement.{statement}
 use Rattle.float64.proofs.sqrt.Tie as tie
@@ -38,7 +38,7 @@ root-pattern-requires : tie.Need-root-pattern-requires
 root-pattern-requires c κs =
     let zero = c.before.before in
     let start = zero.before.before in
-    in-range (x start) (in-binary64 start) (no_nan (x start) zero.before.if1.false) zero.if2.false c.before.if3.false c.if4.false
+    in_range (x start) (in-binary64 start) (no_nan (x start) zero.before.if1.false) zero.if2.false c.before.if3.false c.if4.false
 
 float-from-bits-result : tie.Need-float-from-bits-result
 float-from-bits-result c = below_inf c.root-pattern.result c.root-pattern.ensures.small

@@ -1,7 +1,7 @@
 -- `invert_spd` meets its contract: refused by its sizes, or ended as the inverse did.
 use borrow.Author.Rules.{rules}
 use Rattle.solve.specs.Sizes.{invert_fits}
-use Rattle.solve.proofs.Ends.{invert-refused, invert-solved}
+use Rattle.solve.proofs.Ends.{invert_refused, invert_solved}
 use Rattle.solve.proofs.invert_spd.Statement.{statement}
 use Rattle.solve.proofs.invert_spd.Tie as tie
 
@@ -15,7 +15,7 @@ enum-told-2 : tie.Need-enum-told-2
 enum-told-2 c = search rules
 
 returns : tie.Need-returns
-returns c = invert-refused c.before.before.invert_sizes.ensures c.enum-told2.given.1
+returns c = invert_refused c.before.before.invert_sizes.ensures c.enum-told2.given.1
 
 invert-ready-requires : tie.Need-invert-ready-requires
 invert-ready-requires c κs =
@@ -36,7 +36,7 @@ returns-2 c =
     let solve = c.before.before.before.before.before in
     let accepted = solve.before.before.before in
     let ended = solve.invert-ready.ensures in
-    invert-solved accepted.before.before.invert_sizes.ensures solve.invert-ready.result accepted.enum_told.given.1 ended.0 ended.1 c.not-spd.ensures
+    invert_solved accepted.before.before.invert_sizes.ensures solve.invert-ready.result accepted.enum_told.given.1 ended.0 ended.1 c.not-spd.ensures
 
 pub invert-spd-spec : {M : Type 1} → statement M
 invert-spd-spec =

@@ -1,7 +1,7 @@
 -- `solve_least_squares` meets its contract: refused by its sizes, or ended as the solve did.
 use borrow.Author.Rules.{rules}
 use Rattle.solve.specs.Sizes.{least_fits}
-use Rattle.solve.proofs.Ends.{least-refused, least-solved}
+use Rattle.solve.proofs.Ends.{least_refused, least_solved}
 use Rattle.solve.proofs.solve_least_squares.Statement.{statement}
 use Rattle.solve.proofs.solve_least_squares.Tie as tie
 
@@ -15,7 +15,7 @@ enum-told-2 : tie.Need-enum-told-2
 enum-told-2 c = search rules
 
 returns : tie.Need-returns
-returns c = least-refused c.before.before.least_sizes.ensures c.enum-told2.given.1
+returns c = least_refused c.before.before.least_sizes.ensures c.enum-told2.given.1
 
 least-ready-requires : tie.Need-least-ready-requires
 least-ready-requires c κs =
@@ -33,7 +33,7 @@ returns-2 c =
     let solve = c.before.before.before.before in
     let accepted = solve.before.before.before in
     let ended = solve.least-ready.ensures in
-    least-solved accepted.before.before.least_sizes.ensures accepted.enum_told.given.1 ended.0 ended.1
+    least_solved accepted.before.before.least_sizes.ensures accepted.enum_told.given.1 ended.0 ended.1
 
 pub solve-least-squares-spec : {M : Type 1} → statement M
 solve-least-squares-spec =

@@ -1,7 +1,7 @@
 -- `solve_normal_equations` meets its contract: refused by its sizes, or ended as the solve did.
 use borrow.Author.Rules.{rules}
 use Rattle.solve.specs.Sizes.{normal_fits}
-use Rattle.solve.proofs.Ends.{normal-refused, normal-solved}
+use Rattle.solve.proofs.Ends.{normal_refused, normal_solved}
 use Rattle.solve.proofs.solve_normal_equations.Statement.{statement}
 use Rattle.solve.proofs.solve_normal_equations.Tie as tie
 
@@ -15,7 +15,7 @@ enum-told-2 : tie.Need-enum-told-2
 enum-told-2 c = search rules
 
 returns : tie.Need-returns
-returns c = normal-refused c.before.before.normal_sizes.ensures c.enum-told2.given.1
+returns c = normal_refused c.before.before.normal_sizes.ensures c.enum-told2.given.1
 
 normal-ready-requires : tie.Need-normal-ready-requires
 normal-ready-requires c κs =
@@ -36,7 +36,7 @@ returns-2 c =
     let solve = c.before.before.before.before.before in
     let accepted = solve.before.before.before in
     let ended = solve.normal-ready.ensures in
-    normal-solved accepted.before.before.normal_sizes.ensures solve.normal-ready.result accepted.enum_told.given.1 ended.0 ended.1 c.small-pivot.ensures
+    normal_solved accepted.before.before.normal_sizes.ensures solve.normal-ready.result accepted.enum_told.given.1 ended.0 ended.1 c.small-pivot.ensures
 
 pub solve-normal-equations-spec : {M : Type 1} → statement M
 solve-normal-equations-spec =

@@ -1,7 +1,7 @@
 -- `solve_spd_cholesky` meets its contract: refused by its sizes, or ended as the solve did.
 use borrow.Author.Rules.{rules}
 use Rattle.solve.specs.Sizes.{square_fits}
-use Rattle.solve.proofs.Ends.{square-refused, square-solved}
+use Rattle.solve.proofs.Ends.{square_refused, square_solved}
 use Rattle.solve.proofs.solve_spd_cholesky.Statement.{statement}
 use Rattle.solve.proofs.solve_spd_cholesky.Tie as tie
 
@@ -15,7 +15,7 @@ enum-told-2 : tie.Need-enum-told-2
 enum-told-2 c = search rules
 
 returns : tie.Need-returns
-returns c = square-refused c.before.before.square_sizes.ensures c.enum-told2.given.1
+returns c = square_refused c.before.before.square_sizes.ensures c.enum-told2.given.1
 
 cholesky-requires : tie.Need-cholesky-requires
 cholesky-requires c κs =
@@ -36,7 +36,7 @@ returns-2 : tie.Need-returns-2
 returns-2 c =
     let solve = c.before.before.before.before.before in
     let accepted = solve.before.before.before in
-    square-solved accepted.before.before.square_sizes.ensures solve.cholesky.result accepted.enum_told.given.1 solve.cholesky.ensures c.not-spd.ensures
+    square_solved accepted.before.before.square_sizes.ensures solve.cholesky.result accepted.enum_told.given.1 solve.cholesky.ensures c.not-spd.ensures
 
 pub solve-spd-cholesky-spec : {M : Type 1} → statement M
 solve-spd-cholesky-spec =

@@ -5,7 +5,7 @@ use native.Mathlib.Omega.{arith}
 use lib.Count.{ones, ones-le}
 use borrow.Author.Rules.{rules}
 use Rattle.places.specs.ColumnLaws.{listed_in}
-use Rattle.augment.proofs.Augment.{augmented-is}
+use Rattle.augment.proofs.Augment.{augmented_is}
 use Rattle.augment.proofs.inner.augment_with.Statement.{statement}
 use Rattle.augment.proofs.inner.augment_with.Tie as tie
 
@@ -55,7 +55,7 @@ returns c =
     let count = counted.count in
     let a = start.args in
     rw (← count.ensures, ← root.sqrt.ensures.value)
-    (augmented-is a.n-rows a.n-cols a.support.0 count.result root.sqrt.result _ _ a.s.now _ _ count.ensures
+    (augmented_is a.n-rows a.n-cols a.support.0 count.result root.sqrt.result _ _ a.s.now _ _ count.ensures
     (rw count.ensures start.requires.2) listed.list-terms.ensures gathered.gather.ensures below.add-ridge.ensures)
 
 pub augment-with-spec : {M : Type 1} → statement M

@@ -8,7 +8,7 @@ use lib.ListN.{length}
 use Rattle.places.specs.Columns.{Names}
 use Rattle.places.specs.ColumnLaws.{names_in}
 use Rattle.sums.specs.Inner.{damps}
-use Rattle.block.proofs.Chosen.{block_listed, side-listed}
+use Rattle.block.proofs.Chosen.{block_listed, side_listed}
 use Rattle.block.proofs.inner.solve_block.Statement.{statement}
 use Rattle.block.proofs.inner.solve_block.Tie as tie
 
@@ -62,7 +62,7 @@ returns c =
     let l = listed.list-terms.ensures in
     let made = solve.solve-listed.ensures in
     record {
-      values = rw (count, side.take-side.ensures, begin.pre.2, block_listed a.n-cols a.support.0 l ws (damps a.damping), side-listed a.n-cols a.support.0 l ws)
+      values = rw (count, side.take-side.ensures, begin.pre.2, block_listed a.n-cols a.support.0 l ws (damps a.damping), side_listed a.n-cols a.support.0 l ws)
           at made.values;
       kept = made.kept;
     }

@@ -11,9 +11,9 @@ use Rattle.sums.specs.Products.{jtj_matrix}
 use Rattle.sums.specs.Inner.{damps}
 use Rattle.sums.specs.Kept.{kept_size}
 use Rattle.cholesky.specs.Cholesky.{cholesky}
-use Rattle.normal.specs.Ends.{normal-goes, normal-by-lu}
+use Rattle.normal.specs.Ends.{normal_goes, normal_by_lu}
 use Rattle.block.specs.Listed.{Room, listed_pair}
-use Rattle.block.proofs.Again.{left-long, left-kept, anew}
+use Rattle.block.proofs.Again.{left_long, left_kept, anew}
 use Rattle.block.proofs.inner.solve_listed.Statement.{statement}
 use Rattle.block.proofs.inner.solve_listed.Tie as tie
 
@@ -53,10 +53,10 @@ module _ (c : tie.After-cholesky) where
   after = with_part (kept_size start.args.n-cols) (kept_size start.args.n-cols + length b * length b) left block
 
   kept : take (kept_size start.args.n-cols) after ≡ take (kept_size start.args.n-cols) start.args.ws.now
-  kept = left-kept block left block_room c.cholesky.auto.0 taken.take-block.ensures
+  kept = left_kept block left block_room c.cholesky.auto.0 taken.take-block.ensures
 
   after-room : Room start.args.n-cols (length b) start.args.terms.now after
-  after-room = record { names = room.names; long = left-long block left block_room c.cholesky.auto.0 taken.take-block.ensures ∙ block_room }
+  after-room = record { names = room.names; long = left_long block left block_room c.cholesky.auto.0 taken.take-block.ensures ∙ block_room }
 
 mul-h : tie.Need-overflow-mul-h
 mul-h c = search rules
@@ -131,9 +131,9 @@ returns c =
     let block2 = again.take-block2.new.0 in
     let second = anew (damping solve) (after solve) block2 (room solve) (kept solve) again.take-block2.ensures in
     record {
-      values = normal-by-lu _ _ _ _ lu.lu.result _ _ _ lu.lu.new.0 lu.lu.new.1.0 (by-cholesky solve) refused.enum-told2.given.1
+      values = normal_by_lu _ _ _ _ lu.lu.result _ _ _ lu.lu.new.0 lu.lu.new.1.0 (by-cholesky solve) refused.enum-told2.given.1
           (rw second.block at lu.lu.ensures);
-      kept = left-kept block2 lu.lu.new.0 (again.take-block2.auto.0 ∙ (after-room solve).long) lu.lu.auto.0 second;
+      kept = left_kept block2 lu.lu.new.0 (again.take-block2.auto.0 ∙ (after-room solve).long) lu.lu.auto.0 second;
     }
 
 same-length-3 : tie.Need-same-length-3
@@ -146,7 +146,7 @@ returns-2 : tie.Need-returns-2
 unfolding with_part
 returns-2 c =
     let solve = c.before.before.before.before.before.before in
-    record { values = normal-goes _ _ _ _ _ _ (by-cholesky solve) c.enum_told.given.1; kept = kept solve }
+    record { values = normal_goes _ _ _ _ _ _ (by-cholesky solve) c.enum_told.given.1; kept = kept solve }
 
 pub solve-listed-spec : {M : Type 1} → statement M
 solve-listed-spec =

@@ -6,7 +6,7 @@ use native.Mathlib.Omega.{arith}
 use lib.Arith.{digits_lt}
 use Rattle.block.specs.Listed.{RowTaken, listed_pair}
 use Rattle.block.proofs.Heads.{pair_same}
-use Rattle.block.proofs.Rows.{row-none, row_more}
+use Rattle.block.proofs.Rows.{row_none, row_more}
 use Rattle.block.proofs.take.block_row.Statement.{statement}
 use Rattle.block.proofs.take.block_row.Tie as tie
 
@@ -23,7 +23,7 @@ add-h : tie.Need-overflow-add-h invariant-loop decreases-loop
 add-h c = let few = c.before.before.requires.0.names.few_columns in omega (arith, few, mul-le-mul few few)
 
 loop-holds : tie.Need-loop-init invariant-loop decreases-loop
-loop-holds c = (omega arith, row-none _ _ _ _ _)
+loop-holds c = (omega arith, row_none _ _ _ _ _)
 
 pair-at-requires : tie.Need-pair-at-requires invariant-loop decreases-loop
 pair-at-requires c κs =

@@ -23,7 +23,7 @@ at-term-requires c κs =
 
 returns : tie.Need-returns
 unfolding listed_pair
-returns c = rw (c.at-term.ensures, c.before.before.term_of.ensures, c.before.term-of2.ensures)
+returns c = rw (c.at_term.ensures, c.before.before.term_of.ensures, c.before.term-of2.ensures)
 
 pub pair-at-spec : {M : Type 1} → statement M
 pair-at-spec = tie.close (tie.spec term-of-requires term-of-requires-2 at-term-requires returns)

@@ -15,7 +15,7 @@ at-term-requires c κs =
 
 returns : tie.Need-returns
 unfolding listed_product
-returns c = rw (c.at-term.ensures, c.before.term_of.ensures)
+returns c = rw (c.at_term.ensures, c.before.term_of.ensures)
 
 pub product-at-spec : {M : Type 1} → statement M
 product-at-spec = tie.close (tie.spec term-of-requires at-term-requires returns)

@@ -3,7 +3,7 @@ use mathlib.Core.Path.{refl, ◌∙◌}
 use borrow.Author.Rules.{rules}
 use Rattle.steps.specs.Space.{with_part}
 use Rattle.sums.specs.Inner.{damps}
-use Rattle.block.proofs.Again.{left-damped}
+use Rattle.block.proofs.Again.{left_damped}
 use Rattle.block.proofs.take.take_block.Statement.{statement}
 use Rattle.block.proofs.take.take_block.Tie as tie
 
@@ -46,7 +46,7 @@ returns c =
     let done = c.before.before.damp in
     let rows = c.before.before.before.before.before.before.block-rows in
     let start = c.before.before.before.before.before.before.before.before.before.before in
-    left-damped rows.new.0 done.new.0 (rows.auto.0 ∙ start.requires.long) done.auto.0 rows.ensures (damps start.args.damping) _ refl done.ensures
+    left_damped rows.new.0 done.new.0 (rows.auto.0 ∙ start.requires.long) done.auto.0 rows.ensures (damps start.args.damping) _ refl done.ensures
 
 pub take-block-spec : {M : Type 1} → statement M
 take-block-spec =

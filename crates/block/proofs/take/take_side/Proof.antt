@@ -3,7 +3,7 @@ use mathlib.Core.Path.{◌≡◌, refl, ◌∙◌}
 use Prim.Native.Nat.{◌-◌, ◌≤◌}
 use native.Mathlib.Omega.{arith}
 use lib.ListN.{length, length-set}
-use Rattle.steps.specs.Table.{filled, filled_none, filled_more, filled-end}
+use Rattle.steps.specs.Table.{filled, filled_none, filled_more, filled_end}
 use Rattle.sums.specs.Products.{jtr_column}
 use Rattle.block.specs.Listed.{listed_product}
 use Rattle.block.proofs.take.take_side.Statement.{statement}
@@ -50,7 +50,7 @@ returns c =
     let end = c.before.loop in
     let start = c.before.before.before.before.before in
     let all : end.p ≡ length start.args.b.now = omega arith in
-    end.invariant.2 ∙ rw all (filled-end _ _ start.args.b.now refl)
+    end.invariant.2 ∙ rw all (filled_end _ _ start.args.b.now refl)
 
 pub take-side-spec : {M : Type 1} → statement M
 take-side-spec = tie.close (tie.spec invariant-loop decreases-loop loop-holds product-at-requires mul-b slice-write-b add-p loop-less loop-again same_length returns)

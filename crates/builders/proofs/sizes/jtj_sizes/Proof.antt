@@ -4,7 +4,7 @@ use native.Mathlib.Omega.{arith}
 use borrow.Author.Rules.{rules}
 use Rattle.refusal.specs.Ladder.{ladder}
 use Rattle.builders.specs.Calls.{jtj_sizes}
-use Rattle.builders.specs.Sizes.{matrix-fits}
+use Rattle.builders.specs.Sizes.{matrix_fits}
 use Rattle.builders.proofs.sizes.jtj_sizes.Statement.{statement}
 use Rattle.builders.proofs.sizes.jtj_sizes.Tie as tie
 
@@ -22,7 +22,7 @@ unfolding jtj_sizes
 returns c = rw (← c.before.before.matrix_sizes.ensures, c.enum-told2.given.1)
 
 mul-if1 : tie.Need-overflow-mul-if1
-mul-if1 c = let few = (matrix-fits c.before.before.matrix_sizes.ensures c.enum_told.given.1).few_columns in omega (arith, mul-le-mul few few)
+mul-if1 c = let few = (matrix_fits c.before.before.matrix_sizes.ensures c.enum_told.given.1).few_columns in omega (arith, mul-le-mul few few)
 
 returns-2 : tie.Need-returns-2
 unfolding jtj_sizes

@@ -1,7 +1,7 @@
 -- `causes_rows` lends on what was read: theta and target as the definition has them.
 use native.Mathlib.Omega.{arith}
 use borrow.Author.Rules.{rules}
-use Rattle.exchange.specs.Reading.{theta_room, theta-lent, target-lent, lent-sizes}
+use Rattle.exchange.specs.Reading.{theta_room, theta_lent, target_lent, lent_sizes}
 use Rattle.causes.proofs.terms.causes_rows.Statement.{statement}
 use Rattle.causes.proofs.terms.causes_rows.Tie as tie
 
@@ -41,7 +41,7 @@ causes-read-requires : tie.Need-causes-read-requires
 causes-read-requires c κs =
     let at_read = c.before.before.before.before.before.before.before in
     let start = at_read.before.before.before.before.before.before in
-    (start.requires.0.limited, lent-sizes at_read.read-rows.ensures start.requires.0, omega arith)
+    (start.requires.0.limited, lent_sizes at_read.read-rows.ensures start.requires.0, omega arith)
 
 same_length : tie.Need-same-length
 same_length c = search rules
@@ -50,7 +50,7 @@ returns : tie.Need-returns
 returns c =
     let at-causes-read = c.before.before in
     let has = at-causes-read.before.before.before.before.before.before.before.before.read-rows.ensures in
-    rw (theta-lent has, target-lent has) at at-causes-read.causes-read.ensures
+    rw (theta_lent has, target_lent has) at at-causes-read.causes-read.ensures
 
 pub causes-rows-spec : {M : Type 1} → statement M
 causes-rows-spec =

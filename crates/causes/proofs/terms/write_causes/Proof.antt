@@ -5,7 +5,7 @@ use native.Mathlib.Omega.{arith}
 use lib.ListN.{length}
 use Rattle.exchange.specs.Room.{ready_within}
 use Rattle.why.specs.Cause.{cause_of}
-use Rattle.causes.proofs.Telling.{Told, told_none, told-next, told-end}
+use Rattle.causes.proofs.Telling.{Told, told_none, told_next, told_end}
 use Rattle.causes.proofs.terms.write_causes.Statement.{statement}
 use Rattle.causes.proofs.terms.write_causes.Tie as tie
 
@@ -42,7 +42,7 @@ loop-again c =
     let at-write = c.before.before in
     let at-cause = at-write.before.before.before.before.before.before in
     let at-loop = at-cause.before.before.before.before in
-    (omega arith, omega arith, omega arith, told-next _ _ at-cause.cause-in.ensures (omega arith) at-loop.loop.invariant.3 at-write.write-cause.ensures)
+    (omega arith, omega arith, omega arith, told_next _ _ at-cause.cause-in.ensures (omega arith) at-loop.loop.invariant.3 at-write.write-cause.ensures)
 
 same_length : tie.Need-same-length invariant-loop decreases-loop
 same_length c = c.before.loop.invariant.1
@@ -54,7 +54,7 @@ same-length-3 : tie.Need-same-length-3 invariant-loop decreases-loop
 same-length-3 c = c.before.loop.invariant.3.long
 
 returns : tie.Need-returns invariant-loop decreases-loop
-returns c = told-end _ _ (omega arith) (omega arith) c.before.loop.invariant.3
+returns c = told_end _ _ (omega arith) (omega arith) c.before.loop.invariant.3
 
 pub write-causes-spec : {M : Type 1} → statement M
 write-causes-spec =

@@ -4,14 +4,14 @@ use Prim.Native.Nat.{◌≤◌}
 use native.Mathlib.Omega.{arith}
 use lib.Arith.{digits_lt}
 use lib.ListN.{length, set, length-set}
-use Rattle.steps.specs.Loops.{down-from, down-none, down-more}
+use Rattle.steps.specs.Loops.{down_from, down_none, down_more}
 use Rattle.cholesky.specs.Cholesky.{back_at, chol_back}
 use Rattle.cholesky.proofs.inner.chol_back.Statement.{statement}
 use Rattle.cholesky.proofs.inner.chol_back.Tie as tie
 
 abbrev invariant-loop : tie.invariant-loop
 invariant-loop l b₀ n i₀ b i =
-    (i ≤ n) × (length b ≡ n) × (down-from i (λ r x. set x r (back_at n l r x)) b ≡ chol_back n l b₀)
+    (i ≤ n) × (length b ≡ n) × (down_from i (λ r x. set x r (back_at n l r x)) b ≡ chol_back n l b₀)
 
 abbrev decreases-loop : tie.decreases-loop
 decreases-loop l b₀ n i₀ b i = i
@@ -45,7 +45,7 @@ loop-again c =
     let turn = within.before.loop in (
       omega (arith, within),
       simp length-set turn.invariant.1,
-      rw (c.cell.ensures, c.before.column-sum.ensures) (sym (down-more _ turn.i turn.b within.loop-test.true) ∙ turn.invariant.2),
+      rw (c.cell.ensures, c.before.column-sum.ensures) (sym (down_more _ turn.i turn.b within.loop-test.true) ∙ turn.invariant.2),
     )
 
 same_length : tie.Need-same-length invariant-loop decreases-loop
@@ -55,7 +55,7 @@ returns : tie.Need-returns invariant-loop decreases-loop
 returns c =
     let turn = c.before.loop in
     let none : turn.i ≡ 0 = omega arith in
-    sym (down-none _ turn.b) ∙ rw none at turn.invariant.2
+    sym (down_none _ turn.b) ∙ rw none at turn.invariant.2
 
 pub chol-back-spec : {M : Type 1} → statement M
 chol-back-spec = tie.close (tie.spec invariant-loop decreases-loop loop-holds sub-i column-sum-requires cell-requires mul-b slice-write-b loop-less loop-again same_length returns)

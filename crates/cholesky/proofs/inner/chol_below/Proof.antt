@@ -5,7 +5,7 @@ use native.Mathlib.Omega.{arith}
 use lib.Arith.{digits_lt}
 use lib.ListN.{length, set}
 use Rattle.steps.specs.Num.{over}
-use Rattle.steps.specs.Loops.{loop, loop-none, loop-more, loop-end}
+use Rattle.steps.specs.Loops.{loop, loop_none, loop_more, loop_end}
 use Rattle.cholesky.specs.Cholesky.{reduced, chol_below}
 use Rattle.cholesky.proofs.inner.chol_below.Statement.{statement}
 use Rattle.cholesky.proofs.inner.chol_below.Tie as tie
@@ -20,7 +20,7 @@ add-i : tie.Need-overflow-add-i invariant-loop decreases-loop
 add-i c = omega arith
 
 loop-holds : tie.Need-loop-init invariant-loop decreases-loop
-loop-holds c = (omega arith, omega arith, c.before.requires.0, sym (loop-none _ _ _))
+loop-holds c = (omega arith, omega arith, c.before.requires.0, sym (loop_none _ _ _))
 
 row-less-requires : tie.Need-row-less-requires invariant-loop decreases-loop
 row-less-requires c κs = (c.before.before.loop.invariant.2, c.before.loop-test.true, c.before.before.before.before.requires.1)
@@ -49,7 +49,7 @@ loop-again c =
       omega (arith, within),
       omega (arith, within),
       put.auto.0 ∙ turn.invariant.2,
-      loop-more _ turn.i _ _ turn.invariant.0 turn.invariant.3 (rw (put.ensures, at-row-less.row-less.ensures)),
+      loop_more _ turn.i _ _ turn.invariant.0 turn.invariant.3 (rw (put.ensures, at-row-less.row-less.ensures)),
     )
 
 same_length : tie.Need-same-length invariant-loop decreases-loop
@@ -59,7 +59,7 @@ returns : tie.Need-returns invariant-loop decreases-loop
 unfolding chol_below
 returns c =
     let turn = c.before.loop in
-    loop-end _ turn.i _ _ _ turn.invariant.3 turn.invariant.1 (omega arith)
+    loop_end _ turn.i _ _ _ turn.invariant.3 turn.invariant.1 (omega arith)
 
 pub chol-below-spec : {M : Type 1} → statement M
 chol-below-spec = tie.close (tie.spec invariant-loop decreases-loop add-i loop-holds row-less-requires put-requires add-i-2 loop-less loop-again same_length returns)

@@ -4,7 +4,7 @@ use Prim.Native.Nat.{◌-◌, ◌≤◌}
 use native.Mathlib.Omega.{arith}
 use lib.Arith.{digits_lt}
 use lib.ListN.{length, set, length-set}
-use Rattle.steps.specs.Loops.{loop, loop-none, loop-more, loop-end}
+use Rattle.steps.specs.Loops.{loop, loop_none, loop_more, loop_end}
 use Rattle.cholesky.specs.Cholesky.{forward_at, chol_forward}
 use Rattle.cholesky.proofs.inner.chol_forward.Statement.{statement}
 use Rattle.cholesky.proofs.inner.chol_forward.Tie as tie
@@ -16,7 +16,7 @@ abbrev decreases-loop : tie.decreases-loop
 decreases-loop l b₀ n i₀ b i = n - i
 
 loop-holds : tie.Need-loop-init invariant-loop decreases-loop
-loop-holds c = (omega arith, c.before.before.requires.1, sym (loop-none _ _ _))
+loop-holds c = (omega arith, c.before.before.requires.1, sym (loop_none _ _ _))
 
 row-sum-requires : tie.Need-row-sum-requires invariant-loop decreases-loop
 row-sum-requires c κs =
@@ -47,7 +47,7 @@ loop-again c =
     let turn = c.before.before.before.before.loop in (
       omega (arith, c.before.before.before),
       simp length-set turn.invariant.1,
-      loop-more 0 turn.i _ _ (omega arith) turn.invariant.2 (rw (c.cell.ensures, c.before.row-sum.ensures)),
+      loop_more 0 turn.i _ _ (omega arith) turn.invariant.2 (rw (c.cell.ensures, c.before.row-sum.ensures)),
     )
 
 same_length : tie.Need-same-length invariant-loop decreases-loop
@@ -57,7 +57,7 @@ returns : tie.Need-returns invariant-loop decreases-loop
 unfolding chol_forward
 returns c =
     let turn = c.before.loop in
-    loop-end 0 turn.i _ _ _ turn.invariant.2 turn.invariant.0 (omega arith)
+    loop_end 0 turn.i _ _ _ turn.invariant.2 turn.invariant.0 (omega arith)
 
 pub chol-forward-spec : {M : Type 1} → statement M
 chol-forward-spec = tie.close (tie.spec invariant-loop decreases-loop loop-holds row-sum-requires cell-requires mul-b slice-write-b add-i loop-less loop-again same_length returns)

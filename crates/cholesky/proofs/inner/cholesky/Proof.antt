@@ -1,7 +1,7 @@
 -- `cholesky` meets its contract: the factor, then both substitutions; a refusal leaves b as it was.
 use mathlib.Core.Path.{◌∙◌}
 use borrow.Author.Rules.{rules}
-use Rattle.cholesky.proofs.Ends.{cholesky-stops, cholesky-goes}
+use Rattle.cholesky.proofs.Ends.{cholesky_stops, cholesky_goes}
 use Rattle.cholesky.proofs.inner.cholesky.Statement.{statement}
 use Rattle.cholesky.proofs.inner.cholesky.Tie as tie
 
@@ -20,7 +20,7 @@ same_length c = c.before.before.before.before.cholesky-factor.auto.0
 returns : tie.Need-returns
 returns c =
     let factor = c.before.before.before.before.cholesky-factor in
-    cholesky-stops _ _ _ _ _ _ factor.ensures c.enum-told2.given.1
+    cholesky_stops _ _ _ _ _ _ factor.ensures c.enum-told2.given.1
 
 chol-forward-requires : tie.Need-chol-forward-requires
 chol-forward-requires c κs =
@@ -52,7 +52,7 @@ returns-2 c =
     let forward = back.before.before.before.before.before in
     let done = forward.before.before.before in
     let factor = done.before.before.before.before in
-    cholesky-goes _ _ _ _ _ _ _ factor.cholesky-factor.ensures done.enum_told.given.1 forward.chol_forward.ensures back.chol_back.ensures
+    cholesky_goes _ _ _ _ _ _ _ factor.cholesky-factor.ensures done.enum_told.given.1 forward.chol_forward.ensures back.chol_back.ensures
 
 pub cholesky-spec : {M : Type 1} → statement M
 cholesky-spec =

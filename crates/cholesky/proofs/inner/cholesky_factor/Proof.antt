@@ -4,8 +4,8 @@ use Prim.Native.Nat.{◌*◌, ◌-◌, ◌≤◌}
 use native.Mathlib.Omega.{arith}
 use lib.ListN.{length}
 use borrow.Author.Rules.{rules}
-use Rattle.steps.specs.Loops.{going, way, way-none}
-use Rattle.refusal.specs.Told.{told-goes, told-stops}
+use Rattle.steps.specs.Loops.{going, way, way_none}
+use Rattle.refusal.specs.Told.{told_goes, told_stops}
 use Rattle.cholesky.specs.Cholesky.{chol_column, chol_factor}
 use Rattle.cholesky.proofs.inner.cholesky_factor.Statement.{statement}
 use Rattle.cholesky.proofs.inner.cholesky_factor.Tie as tie
@@ -20,7 +20,7 @@ chol-scale-requires : tie.Need-chol-scale-requires invariant-loop decreases-loop
 chol-scale-requires c κs = search rules
 
 loop-holds : tie.Need-loop-init invariant-loop decreases-loop
-loop-holds c = (omega arith, c.before.before.before.requires, way-none _ _ _)
+loop-holds c = (omega arith, c.before.before.before.requires, way_none _ _ _)
 
 chol-column-requires : tie.Need-chol-column-requires invariant-loop decreases-loop
 chol-column-requires c κs = (c.before.before.loop.invariant.1, c.before.loop-test.true)
@@ -44,7 +44,7 @@ returns c =
     let within = column.before.before in
     let turn = within.before.loop in
     rw (← within.before.before.chol-scale.ensures)
-    (told-stops _ 0 turn.j _ _ _ _ (omega arith) turn.invariant.2 column.chol_column.ensures _ within.loop-test.true c.enum-told2.given.1)
+    (told_stops _ 0 turn.j _ _ _ _ (omega arith) turn.invariant.2 column.chol_column.ensures _ within.loop-test.true c.enum-told2.given.1)
 
 add-j : tie.Need-overflow-add-j invariant-loop decreases-loop
 add-j c = omega arith
@@ -58,7 +58,7 @@ loop-again c =
     let turn = column.before.before.before.loop in (
       omega arith,
       column.chol_column.auto.0 ∙ turn.invariant.1,
-      told-goes _ 0 turn.j _ _ _ _ (omega arith) turn.invariant.2 column.chol_column.ensures c.enum_told.given.1,
+      told_goes _ 0 turn.j _ _ _ _ (omega arith) turn.invariant.2 column.chol_column.ensures c.enum_told.given.1,
     )
 
 same-length-2 : tie.Need-same-length-2 invariant-loop decreases-loop

@@ -7,7 +7,7 @@ use lib.ListN.{length}
 use lib.Ieee.{Float, nan}
 use borrow.Author.Rules.{rules}
 use Rattle.steps.specs.Num.{+zero, at}
-use Rattle.steps.specs.Table.{is-tab}
+use Rattle.steps.specs.Table.{is_tab}
 use Rattle.steps.specs.Wrote.{Wrote, wrote_none, wrote_more, wrote_now}
 use Rattle.rule.specs.Fits.{clears}
 use Rattle.coeffs.proofs.inner.prune.Statement.{statement}
@@ -64,7 +64,7 @@ returns : tie.Need-returns invariant-loop decreases-loop
 returns c =
     let turn = c.before.loop in
     let cs₀ = c.before.before.before.args.coeffs.now in
-    is-tab (length cs₀) _ turn.coeffs nan turn.invariant.2.long (λ i h. turn.invariant.2.done i (omega arith) (omega arith))
+    is_tab (length cs₀) _ turn.coeffs nan turn.invariant.2.long (λ i h. turn.invariant.2.done i (omega arith) (omega arith))
 
 pub prune-spec : {M : Type 1} → statement M
 prune-spec =

@@ -8,7 +8,7 @@ use lib.Ieee.{Float}
 use Rattle.support.specs.SupportLaws.{full_lt}
 use Rattle.rule.specs.Sizes.{still}
 use Rattle.rounds.specs.Ended.{zeroed}
-use Rattle.first.proofs.First.{none_left, no_rows, no-cols, first-refused, first_goes}
+use Rattle.first.proofs.First.{none_left, no_rows, no_cols, first_refused, first_goes}
 use Rattle.first.proofs.inner.run.Statement.{statement}
 use Rattle.first.proofs.inner.run.Tie as tie
 
@@ -64,7 +64,7 @@ returns-2 c =
     let at-if1 = c.before.before in
     let begin = at-if1.before.before.before.before.before.before in
     let a = begin.args in
-    no-cols a.task a.theta.now a.target.now a.term-idx.0 at-if1.if1.false c.if2.true (none_left a.task.cols a.coeffs.now c.if2.true begin.requires.coeffs_long)
+    no_cols a.task a.theta.now a.target.now a.term-idx.0 at-if1.if1.false c.if2.true (none_left a.task.cols a.coeffs.now c.if2.true begin.requires.coeffs_long)
 
 keep-requires : tie.Need-keep-requires
 keep-requires c κs = search rules
@@ -123,7 +123,7 @@ returns-4 c =
     let refused = at_clear.before.before.before in
     let s = refused.before.before.before.before.before.before in
     let a = (begin s).args in
-    first-refused a.task a.theta.now a.target.now a.term-idx.0 (some-rows (some (all s))) (some-cols (some (all s))) (begin s).requires.sized.limited.few_cols
+    first_refused a.task a.theta.now a.target.now a.term-idx.0 (some-rows (some (all s))) (some-cols (some (all s))) (begin s).requires.sized.limited.few_cols
     (all s).full.result.0 (all s).full.ensures s.solve-terms.result (new-coeffs s) s.solve-terms.ensures.0
     _ _ refused.term.given.1 (new-long s) at_clear.clear2.ensures
 

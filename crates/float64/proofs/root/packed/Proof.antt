@@ -3,7 +3,7 @@ use Rattle.std.proofs.Common.{◌≡◌, ℕ, ◌+◌, ◌*◌, ◌/◌, ◌%◌
 use Rattle.float64.specs.Parts.{Rooted}
 use Rattle.float64.proofs.Fields.{halved, wide}
 use Rattle.float64.proofs.Digits.{q_high}
-use Rattle.float64.proofs.Pattern.{root-at, root-small}
+use Rattle.float64.proofs.Pattern.{root_at, root_small}
 use Rattle.float64.proofs.root.packed.Statement.{statement}
 use Rattle.float64.proofs.root.packed.Tie as tie
 
@@ -48,8 +48,8 @@ returns c =
     let k : n * 2 ^ 52 ≡ s * 2 ^ h * 2 ^ h = sym e ∙ sym (halved t.args.sig t.args.exp) in
     subst (λ (m : ℕ). Rooted n ((485 + h) * 2 ^ 52 + m)) r.half
     (record {
-      reads = root-at n s h r.q k (digits t).0 (digits t).1 few r.whole;
-      small = root-small n s h r.q k (digits t).0 (digits t).1 few r.whole;
+      reads = root_at n s h r.q k (digits t).0 (digits t).1 few r.whole;
+      small = root_small n s h r.q k (digits t).0 (digits t).1 few r.whole;
     })
 
 pub packed-spec : {M : Type 1} → statement M

@@ -1,7 +1,7 @@
 -- `fit_rows` lends on what was read: theta and target as the definition has them.
 use native.Mathlib.Omega.{arith}
 use borrow.Author.Rules.{rules}
-use Rattle.exchange.specs.Reading.{theta_room, theta-lent, target-lent, lent-sizes}
+use Rattle.exchange.specs.Reading.{theta_room, theta_lent, target_lent, lent_sizes}
 use Rattle.frames.specs.Exchange.{fit_asked}
 use Rattle.frames.proofs.fit.fit_rows.Statement.{statement}
 use Rattle.frames.proofs.fit.fit_rows.Tie as tie
@@ -42,7 +42,7 @@ fit-read-requires : tie.Need-fit-read-requires
 fit-read-requires c κs =
     let at_read = c.before.before.before.before.before.before.before in
     let start = at_read.before.before.before.before.before.before in
-    (start.requires.0.limited, lent-sizes at_read.read-rows.ensures start.requires.0, omega arith)
+    (start.requires.0.limited, lent_sizes at_read.read-rows.ensures start.requires.0, omega arith)
 
 same_length : tie.Need-same-length
 same_length c = search rules
@@ -52,7 +52,7 @@ unfolding fit_asked
 returns c =
     let at-fit-read = c.before.before in
     let has = at-fit-read.before.before.before.before.before.before.before.before.read-rows.ensures in
-    rw (theta-lent has, target-lent has) at at-fit-read.fit_read.ensures
+    rw (theta_lent has, target_lent has) at at-fit-read.fit_read.ensures
 
 pub fit-rows-spec : {M : Type 1} → statement M
 fit-rows-spec =

@@ -5,7 +5,7 @@ use Prim.Native.Nat.{◌-◌, ◌≤◌}
 use native.Mathlib.Omega.{arith}
 use borrow.Author.Rules.{rules}
 use Rattle.hexdigits.specs.Hex.{all_hex}
-use Rattle.hexdigits.specs.Parts.{hex-none, hex-more, hex-end, hex-not}
+use Rattle.hexdigits.specs.Parts.{hex_none, hex_more, hex_end, hex_not}
 use Rattle.hexdigits.proofs.inner.all_hex.Statement.{statement}
 use Rattle.hexdigits.proofs.inner.all_hex.Tie as tie
 
@@ -16,7 +16,7 @@ abbrev decreases-loop : tie.decreases-loop
 decreases-loop s at n i₀ i = n - i
 
 loop-holds : tie.Need-loop-init invariant-loop decreases-loop
-loop-holds c = (omega arith, hex-none _ _)
+loop-holds c = (omega arith, hex_none _ _)
 
 add-value : tie.Need-overflow-add-value invariant-loop decreases-loop
 add-value c = omega arith
@@ -30,7 +30,7 @@ value-requires c κs = search rules
 returns : tie.Need-returns invariant-loop decreases-loop
 returns c =
     let at-loop = c.before.before.before.before in
-    sym (hex-not _ _ at-loop.loop.i _ (omega arith) (rw c.before.value.ensures at c.if1.true))
+    sym (hex_not _ _ at-loop.loop.i _ (omega arith) (rw c.before.value.ensures at c.if1.true))
 
 add-i : tie.Need-overflow-add-i invariant-loop decreases-loop
 add-i c = omega arith
@@ -41,11 +41,11 @@ loop-less c = omega arith
 loop-again : tie.Need-loop-preserved invariant-loop decreases-loop
 loop-again c =
     let at-loop = c.before.before.before.before in
-    (omega arith, hex-more _ _ _ at-loop.loop.invariant.1 (omega (arith, c.before.value.ensures)))
+    (omega arith, hex_more _ _ _ at-loop.loop.invariant.1 (omega (arith, c.before.value.ensures)))
 
 returns-2 : tie.Need-returns-2 invariant-loop decreases-loop
 returns-2 c =
-    sym (hex-end _ _ c.before.loop.invariant.1 (omega arith) (omega arith))
+    sym (hex_end _ _ c.before.loop.invariant.1 (omega arith) (omega arith))
 
 pub all-hex-spec : {M : Type 1} → statement M
 all-hex-spec = tie.close (tie.spec invariant-loop decreases-loop loop-holds add-value shared-slice-read-value value-requires returns add-i loop-less loop-again returns-2)

@@ -7,7 +7,7 @@ use native.Mathlib.Omega.{arith}
 use borrow.Author.Rules.{rules}
 use lib.Dec.{lit<}
 use Rattle.hexdigits.specs.Hex.{value, number_at}
-use Rattle.hexdigits.specs.Parts.{number-none, number_more, hex-at}
+use Rattle.hexdigits.specs.Parts.{number_none, number_more, hex_at}
 use Rattle.hexdigits.proofs.inner.number_at.Statement.{statement}
 use Rattle.hexdigits.proofs.inner.number_at.Tie as tie
 
@@ -29,10 +29,10 @@ digit : (c : tie.After-value invariant-loop decreases-loop) → c.value.result <
 digit c =
     let at-loop = c.before.before.before in
     let start = at-loop.before.before in
-    rw c.value.ensures (hex-at _ _ _ at-loop.loop.i start.requires.0.good (omega arith))
+    rw c.value.ensures (hex_at _ _ _ at-loop.loop.i start.requires.0.good (omega arith))
 
 loop-holds : tie.Need-loop-init invariant-loop decreases-loop
-loop-holds c = (omega arith, sym (number-none _ _), omega arith)
+loop-holds c = (omega arith, sym (number_none _ _), omega arith)
 
 mul-w : tie.Need-overflow-mul-w invariant-loop decreases-loop
 mul-w c = omega (arith, room c.before.loop.i (omega arith))

@@ -2,7 +2,7 @@
 use Prim.Native.Nat.{◌-◌}
 use native.Mathlib.Omega.{arith}
 use borrow.Author.Rules.{rules}
-use Rattle.hexdigits.proofs.Writing.{Writing, writing-none, writing_more, writing-end}
+use Rattle.hexdigits.proofs.Writing.{Writing, writing_none, writing_more, writing_end}
 use Rattle.hexdigits.proofs.inner.write_hex.Statement.{statement}
 use Rattle.hexdigits.proofs.inner.write_hex.Tie as tie
 
@@ -13,7 +13,7 @@ abbrev decreases-loop : tie.decreases-loop
 decreases-loop w n out₀ at rest₀ k₀ out rest k = n - k
 
 loop-holds : tie.Need-loop-init invariant-loop decreases-loop
-loop-holds c = writing-none _ _ _ _
+loop-holds c = writing_none _ _ _ _
 
 glyph-requires : tie.Need-glyph-requires invariant-loop decreases-loop
 glyph-requires c κs = omega arith
@@ -48,7 +48,7 @@ same_length : tie.Need-same-length invariant-loop decreases-loop
 same_length c = search rules
 
 returns : tie.Need-returns invariant-loop decreases-loop
-returns c = writing-end _ _ _ _ (omega arith) c.before.loop.invariant
+returns c = writing_end _ _ _ _ (omega arith) c.before.loop.invariant
 
 pub write-hex-spec : {M : Type 1} → statement M
 write-hex-spec = tie.close (tie.spec invariant-loop decreases-loop loop-holds glyph-requires sub_out sub-out-2 add-out slice-write-out add-k loop-less loop-again add-result same_length returns)

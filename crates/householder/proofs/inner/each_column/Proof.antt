@@ -5,8 +5,8 @@ use Prim.Native.Nat.{ℕ, ◌+◌, ◌-◌, ◌≤◌, ◌<◌}
 use native.Mathlib.Omega.{arith}
 use lib.ListN.{length, length-set, set}
 use lib.Ieee.{Float}
-use Rattle.steps.specs.Loops.{loop-none, loop-more}
-use Rattle.steps.specs.Table.{filled, filled_none, filled_more, filled-end}
+use Rattle.steps.specs.Loops.{loop_none, loop_more}
+use Rattle.steps.specs.Table.{filled, filled_none, filled_more, filled_end}
 use Rattle.householder.specs.Qr.{column, after, beta, betas}
 use Rattle.householder.proofs.inner.each_column.Statement.{statement}
 use Rattle.householder.proofs.inner.each_column.Tie as tie
@@ -20,7 +20,7 @@ decreases-loop a₀ b₀ m n j₀ a b j = n - j
 -- one more column
 after_more : (m n j : ℕ) (a t u : List Float) (x : Float) → t ≡ after m n a j → (u, x) ≡ column m n j t → u ≡ after m n a (j + 1)
 unfolding after
-after_more m n j a t u x is step = loop-more 0 j (λ j l. (column m n j l).0) a (omega arith) is (ap (λ (p : List Float × Float). p.0) step)
+after_more m n j a t u x is step = loop_more 0 j (λ j l. (column m n j l).0) a (omega arith) is (ap (λ (p : List Float × Float). p.0) step)
 
 beta-more : (m n j : ℕ) (a t u b b₀ : List Float) (x : Float) → t ≡ after m n a j → (u, x) ≡ column m n j t → j < length b₀ → b ≡ filled (beta m n a) j b₀ → set b j x ≡ filled (beta m n a) (j + 1) b₀
 unfolding beta
@@ -30,7 +30,7 @@ beta-more m n j a t u b b₀ x is step h fill =
 
 loop-holds : tie.Need-loop-init invariant-loop decreases-loop
 unfolding after
-loop-holds c = (omega arith, refl, refl, sym (loop-none _ _ _), filled_none _ _)
+loop-holds c = (omega arith, refl, refl, sym (loop_none _ _ _), filled_none _ _)
 
 qr-column-requires : tie.Need-qr-column-requires invariant-loop decreases-loop
 qr-column-requires c κs = omega arith
@@ -75,7 +75,7 @@ returns c =
     let start = c.before.before.before.before in
     let end = c.before.loop in
     let all : end.j ≡ start.args.n = omega arith in
-    (rw all at end.invariant.3, (rw all at end.invariant.4) ∙ filled-end _ _ _ start.requires.1)
+    (rw all at end.invariant.3, (rw all at end.invariant.4) ∙ filled_end _ _ _ start.requires.1)
 
 pub each-column-spec : {M : Type 1} → statement M
 each-column-spec =

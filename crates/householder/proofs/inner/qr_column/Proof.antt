@@ -2,7 +2,7 @@
 use native.Mathlib.Omega.{arith}
 use borrow.Author.Rules.{rules}
 use lib.Arith.{digits_lt}
-use Rattle.householder.proofs.Column.{sums_none, skips, skips-push, reflects}
+use Rattle.householder.proofs.Column.{sums_none, skips, skips_push, reflects}
 use Rattle.householder.proofs.inner.qr_column.Statement.{statement}
 use Rattle.householder.proofs.inner.qr_column.Tie as tie
 
@@ -40,7 +40,7 @@ returns-2 c =
     let rooted = signed.before.before in
     let summed = rooted.before in
     let args = summed.before.before.before.before.before.args in
-    skips-push args.m args.n args.j args.a.now summed.before.before.cell.ensures summed.squares.ensures rooted.sqrt.ensures.value
+    skips_push args.m args.n args.j args.a.now summed.before.before.cell.ensures summed.squares.ensures rooted.sqrt.ensures.value
     signed.sign_of.ensures c.before.squares2.ensures signed.before.if1.false c.if2.true
 
 slice-aggregate-column-sums : tie.Need-slice-aggregate-column-sums

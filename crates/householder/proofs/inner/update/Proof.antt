@@ -8,7 +8,7 @@ use lib.Ieee.{Float}
 use Rattle.steps.specs.Num.{at, cell}
 use Rattle.steps.specs.Table.{row_fits}
 use Rattle.steps.specs.Rows.{Rows}
-use Rattle.householder.proofs.Rows.{New, reflected-lead, reflected-row, reflected-end}
+use Rattle.householder.proofs.Rows.{New, reflected_lead, reflected_row, reflected_end}
 use Rattle.householder.proofs.inner.update.Statement.{statement}
 use Rattle.householder.proofs.inner.update.Tie as tie
 
@@ -87,7 +87,7 @@ loop-again c =
       omega (arith, turn),
       omega (arith, test),
       stored.auto.0 ∙ row.auto.0 ∙ turn.invariant.2,
-      λ l size rows. reflected-row args.m args.n args.j args.x args.t.now l size start.pre.0.wide
+      λ l size rows. reflected_row args.m args.n args.j args.x args.t.now l size start.pre.0.wide
           turn.i _ turn.a row.new.0 (omega (arith, turn)) test.loop-test.true (turn.invariant.3 l size rows) at-cell.cell.ensures row.ensures _ stored.ensures,
     )
 
@@ -104,8 +104,8 @@ returns c =
     let shape = start.requires.0 in
     let end = at-loop.loop in
     let all : end.i ≡ start.args.m = omega arith in
-    let first = reflected-lead start.args.m start.args.n start.args.j start.args.x t a shape.size shape.wide _ at-less-row.less_row.ensures in
-    reflected-end start.args.m start.args.n start.args.j start.args.x t a shape.size shape.wide _ (rw all at (end.invariant.3 a shape.size first))
+    let first = reflected_lead start.args.m start.args.n start.args.j start.args.x t a shape.size shape.wide _ at-less-row.less_row.ensures in
+    reflected_end start.args.m start.args.n start.args.j start.args.x t a shape.size shape.wide _ (rw all at (end.invariant.3 a shape.size first))
 
 pub update-spec : {M : Type 1} → statement M
 update-spec =

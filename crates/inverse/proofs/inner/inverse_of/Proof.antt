@@ -3,7 +3,7 @@ use mathlib.Core.Path.{ap, ◌∙◌}
 use borrow.Author.Rules.{rules}
 use Rattle.cholesky.specs.Cholesky.{chol_forward, chol_back}
 use Rattle.inverse.specs.Inverse.{inverse_column}
-use Rattle.inverse.proofs.ColumnLaws.{columns-inverse}
+use Rattle.inverse.proofs.ColumnLaws.{columns_inverse}
 use Rattle.inverse.proofs.inner.inverse_of.Statement.{statement}
 use Rattle.inverse.proofs.inner.inverse_of.Tie as tie
 
@@ -28,7 +28,7 @@ returns c =
     let args = units.before.before.before.before.args in
     let n = args.n in
     let l = args.l.now in
-    columns-inverse n l _
+    columns_inverse n l _
     record {
       square = back.back-rows.ensures.square;
       each = λ j h.

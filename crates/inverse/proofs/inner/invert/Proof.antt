@@ -1,6 +1,6 @@
 -- `invert` meets its contract: the inverse by the factor of a copy, or the refusal of that, which leaves the output as it was.
 use borrow.Author.Rules.{rules}
-use Rattle.inverse.proofs.Ends.{invert-stops, invert-goes}
+use Rattle.inverse.proofs.Ends.{invert_stops, invert_goes}
 use Rattle.inverse.proofs.inner.invert.Statement.{statement}
 use Rattle.inverse.proofs.inner.invert.Tie as tie
 
@@ -23,7 +23,7 @@ returns : tie.Need-returns
 returns c =
     let factor = c.before.before.before.before in
     let copy = factor.before.before.before.before in
-    invert-stops _ _ _ _ _ _ (rw copy.copy.ensures at factor.cholesky-factor.ensures) c.enum-told2.given.1
+    invert_stops _ _ _ _ _ _ (rw copy.copy.ensures at factor.cholesky-factor.ensures) c.enum-told2.given.1
 
 inverse-of-requires : tie.Need-inverse-of-requires
 inverse-of-requires c κs = search rules
@@ -40,7 +40,7 @@ returns-2 c =
     let done = inverse.before.before.before in
     let factor = done.before.before.before.before in
     let copy = factor.before.before.before.before in
-    invert-goes _ _ _ _ _ _ (rw copy.copy.ensures at factor.cholesky-factor.ensures) done.enum_told.given.1 inverse.inverse-of.ensures
+    invert_goes _ _ _ _ _ _ (rw copy.copy.ensures at factor.cholesky-factor.ensures) done.enum_told.given.1 inverse.inverse-of.ensures
 
 pub invert-spec : {M : Type 1} → statement M
 invert-spec =

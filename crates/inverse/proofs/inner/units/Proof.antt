@@ -7,7 +7,7 @@ use lib.ListN.{length, replicate}
 use Rattle.steps.specs.Num.{+zero, one}
 use Rattle.steps.specs.Space.{cleared_all}
 use Rattle.steps.specs.Wrote.{Wrote, wrote_none, wrote_more, wrote_end, diagonal_apart}
-use Rattle.inverse.proofs.ColumnLaws.{units-columns}
+use Rattle.inverse.proofs.ColumnLaws.{units_columns}
 use Rattle.inverse.proofs.inner.units.Statement.{statement}
 use Rattle.inverse.proofs.inner.units.Tie as tie
 
@@ -56,7 +56,7 @@ returns c =
     let start = clear.before.before.before in
     let x = start.args.x.now in
     let zeros = clear.clear.ensures ∙ cleared_all (length x) x refl ∙ ap (λ (k : ℕ). replicate k +zero) start.requires in
-    units-columns start.args.n _ end.x zeros (wrote_end _ 0 end.i _ _ _ end.x end.invariant.2 (omega arith) (omega arith))
+    units_columns start.args.n _ end.x zeros (wrote_end _ 0 end.i _ _ _ end.x end.invariant.2 (omega arith) (omega arith))
 
 pub units-spec : {M : Type 1} → statement M
 units-spec = tie.close (tie.spec invariant-loop decreases-loop clear-requires loop-holds put-requires add-i loop-less loop-again same_length returns)

@@ -5,7 +5,7 @@ use native.Mathlib.Omega.{arith}
 use lib.Arith.{digits_lt}
 use Rattle.steps.specs.Num.{cell}
 use Rattle.cholesky.specs.Cholesky.{back_at}
-use Rattle.inverse.proofs.Lost.{Lost, lost-none, lost-more, lost-over}
+use Rattle.inverse.proofs.Lost.{Lost, lost_none, lost_more, lost_over}
 use Rattle.inverse.proofs.rows.back_row.Statement.{statement}
 use Rattle.inverse.proofs.rows.back_row.Tie as tie
 
@@ -19,7 +19,7 @@ add-k : tie.Need-overflow-add-k invariant-loop decreases-loop
 add-k c = omega arith
 
 loop-holds : tie.Need-loop-init invariant-loop decreases-loop
-loop-holds c = (omega arith, omega arith, lost-none _ _ _ _ _ c.before.before.requires.2)
+loop-holds c = (omega arith, omega arith, lost_none _ _ _ _ _ c.before.before.requires.2)
 
 cell-requires : tie.Need-cell-requires invariant-loop decreases-loop
 cell-requires c κs = let start = c.before.before.before.before.before in rw start.requires.0 (digits_lt (omega arith) start.requires.2)
@@ -43,7 +43,7 @@ loop-again c =
     let turn = within.before.loop in (
       omega (arith, within),
       omega (arith, within),
-      lost-more _ _ _ _ _ turn.k turn.x _ turn.invariant.0 within.loop-test.true (λ e. omega (arith, within, e))
+      lost_more _ _ _ _ _ turn.k turn.x _ turn.invariant.0 within.loop-test.true (λ e. omega (arith, within, e))
           turn.invariant.2 (rw less.before.cell.ensures at less.less_row.ensures),
     )
 
@@ -67,7 +67,7 @@ returns c =
     let over = c.before.before in
     let end = over.before.before.before.before in
     let start = end.before.before.before in
-    lost-over _ _ _ _ _ end.loop.k _ _ _ _ start.requires.1 end.loop.invariant.1 (omega (arith, over.before.before.before))
+    lost_over _ _ _ _ _ end.loop.k _ _ _ _ start.requires.1 end.loop.invariant.1 (omega (arith, over.before.before.before))
     end.loop.invariant.2 (rw over.before.cell2.ensures at over.over-row.ensures)
 
 pub back-row-spec : {M : Type 1} → statement M

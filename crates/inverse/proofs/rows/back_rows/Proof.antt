@@ -3,7 +3,7 @@ use mathlib.Core.Path.{◌≡◌, refl, sym, ◌∙◌}
 use Prim.Native.Nat.{ℕ, ◌*◌, ◌≤◌, ◌<◌}
 use native.Mathlib.Omega.{arith}
 use lib.ListN.{length, set}
-use Rattle.steps.specs.Loops.{down-from, down-none, down-more}
+use Rattle.steps.specs.Loops.{down_from, down_none, down_more}
 use Rattle.cholesky.specs.Cholesky.{back_at, chol_back}
 use Rattle.inverse.specs.ByColumns.{down_column}
 use Rattle.inverse.proofs.rows.back_rows.Statement.{statement}
@@ -11,7 +11,7 @@ use Rattle.inverse.proofs.rows.back_rows.Tie as tie
 
 abbrev invariant-loop : tie.invariant-loop
 invariant-loop l x₀ n i₀ x i =
-    (i ≤ n) × (length x ≡ n * n) × ((j : ℕ) → j < n → down-from i (λ r b. set b r (back_at n l r b)) (down_column n x j) ≡ chol_back n l (down_column n x₀ j))
+    (i ≤ n) × (length x ≡ n * n) × ((j : ℕ) → j < n → down_from i (λ r b. set b r (back_at n l r b)) (down_column n x j) ≡ chol_back n l (down_column n x₀ j))
 
 abbrev decreases-loop : tie.decreases-loop
 decreases-loop l x₀ n i₀ x i = i
@@ -39,7 +39,7 @@ loop-again c =
     let written = row.back-row.ensures in (
       omega (arith, within),
       written.square,
-      λ j h. rw (written.each j h) (sym (down-more _ turn.i _ within.loop-test.true) ∙ turn.invariant.2 j h),
+      λ j h. rw (written.each j h) (sym (down_more _ turn.i _ within.loop-test.true) ∙ turn.invariant.2 j h),
     )
 
 same_length : tie.Need-same-length invariant-loop decreases-loop
@@ -49,7 +49,7 @@ returns : tie.Need-returns invariant-loop decreases-loop
 returns c =
     let end = c.before.loop in
     let none : end.i ≡ 0 = omega arith in
-    record { square = end.invariant.1; each = λ j h. sym (down-none _ _) ∙ rw none at (end.invariant.2 j h) }
+    record { square = end.invariant.1; each = λ j h. sym (down_none _ _) ∙ rw none at (end.invariant.2 j h) }
 
 pub back-rows-spec : {M : Type 1} → statement M
 back-rows-spec = tie.close (tie.spec invariant-loop decreases-loop loop-holds sub-i back-row-requires loop-less loop-again same_length returns)

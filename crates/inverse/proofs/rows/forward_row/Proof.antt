@@ -5,7 +5,7 @@ use native.Mathlib.Omega.{arith}
 use lib.Arith.{digits_lt}
 use Rattle.steps.specs.Num.{cell}
 use Rattle.cholesky.specs.Cholesky.{forward_at}
-use Rattle.inverse.proofs.Lost.{Lost, lost-none, lost-more, lost-over}
+use Rattle.inverse.proofs.Lost.{Lost, lost_none, lost_more, lost_over}
 use Rattle.inverse.proofs.rows.forward_row.Statement.{statement}
 use Rattle.inverse.proofs.rows.forward_row.Tie as tie
 
@@ -16,7 +16,7 @@ abbrev decreases-loop : tie.decreases-loop
 decreases-loop l x₀ n i k₀ x k = i - k
 
 loop-holds : tie.Need-loop-init invariant-loop decreases-loop
-loop-holds c = (omega arith, lost-none _ _ _ 0 _ c.before.before.requires.2)
+loop-holds c = (omega arith, lost_none _ _ _ 0 _ c.before.before.requires.2)
 
 cell-requires : tie.Need-cell-requires invariant-loop decreases-loop
 cell-requires c κs = let start = c.before.before.before.before.before in rw start.requires.0 (digits_lt start.requires.2 (omega arith))
@@ -40,7 +40,7 @@ loop-again c =
     let turn = within.before.loop in
     let start = within.before.before.before.before in (
       omega (arith, within),
-      lost-more _ _ _ 0 _ turn.k turn.x _ (omega arith) (omega (arith, within, start.requires.2)) (λ e. omega (arith, within, e))
+      lost_more _ _ _ 0 _ turn.k turn.x _ (omega arith) (omega (arith, within, start.requires.2)) (λ e. omega (arith, within, e))
           turn.invariant.1 (rw less.before.cell.ensures at less.less_row.ensures),
     )
 
@@ -64,7 +64,7 @@ returns c =
     let over = c.before.before in
     let end = over.before.before.before.before in
     let start = end.before.before.before in
-    lost-over _ _ _ 0 _ end.loop.k _ _ _ _ start.requires.1 end.loop.invariant.0 (omega (arith, over.before.before.before))
+    lost_over _ _ _ 0 _ end.loop.k _ _ _ _ start.requires.1 end.loop.invariant.0 (omega (arith, over.before.before.before))
     end.loop.invariant.1 (rw over.before.cell2.ensures at over.over-row.ensures)
 
 pub forward-row-spec : {M : Type 1} → statement M

@@ -3,7 +3,7 @@ use mathlib.Core.Path.{sym, ◌∙◌}
 use Prim.Native.Nat.{◌-◌, ◌≤◌}
 use native.Mathlib.Omega.{arith}
 use lib.ListN.{set}
-use Rattle.steps.specs.Loops.{loop, loop-none, loop-more, loop-end}
+use Rattle.steps.specs.Loops.{loop, loop_none, loop_more, loop_end}
 use Rattle.cholesky.specs.Cholesky.{forward_at, chol_forward}
 use Rattle.inverse.specs.ByColumns.{down_column, ByColumns}
 use Rattle.inverse.proofs.rows.forward_rows.Statement.{statement}
@@ -16,7 +16,7 @@ abbrev decreases-loop : tie.decreases-loop
 decreases-loop l x₀ n i₀ x i = n - i
 
 loop-holds : tie.Need-loop-init invariant-loop decreases-loop
-loop-holds c = (omega arith, record { square = c.before.before.requires.1; each = λ j h. sym (loop-none _ _ _) })
+loop-holds c = (omega arith, record { square = c.before.before.requires.1; each = λ j h. sym (loop_none _ _ _) })
 
 forward-row-requires : tie.Need-forward-row-requires invariant-loop decreases-loop
 forward-row-requires c κs =
@@ -36,7 +36,7 @@ loop-again c =
     let turn = within.before.loop in
     let written = row.forward-row.ensures in (
       omega (arith, within),
-      record { square = written.square; each = λ j h. loop-more 0 turn.i _ _ (omega arith) (turn.invariant.1.each j h) (written.each j h) },
+      record { square = written.square; each = λ j h. loop_more 0 turn.i _ _ (omega arith) (turn.invariant.1.each j h) (written.each j h) },
     )
 
 same_length : tie.Need-same-length invariant-loop decreases-loop
@@ -46,7 +46,7 @@ returns : tie.Need-returns invariant-loop decreases-loop
 unfolding chol_forward
 returns c =
     let end = c.before.loop in
-    record { square = end.invariant.1.square; each = λ j h. loop-end 0 end.i _ _ _ (end.invariant.1.each j h) end.invariant.0 (omega arith) }
+    record { square = end.invariant.1.square; each = λ j h. loop_end 0 end.i _ _ _ (end.invariant.1.each j h) end.invariant.0 (omega arith) }
 
 pub forward-rows-spec : {M : Type 1} → statement M
 forward-rows-spec = tie.close (tie.spec invariant-loop decreases-loop loop-holds forward-row-requires add-i loop-less loop-again same_length returns)

@@ -2,7 +2,7 @@
 use mathlib.Core.Path.{◌∙◌}
 use borrow.Author.Rules.{rules}
 use Rattle.steps.specs.Space.{with_part}
-use Rattle.keep.proofs.Taking.{head-long, took}
+use Rattle.keep.proofs.Taking.{head_long, took}
 use Rattle.keep.proofs.inner.take_page.Statement.{statement}
 use Rattle.keep.proofs.inner.take_page.Tie as tie
 
@@ -24,7 +24,7 @@ part-add-page-end c = search rules
 add-page-requires : tie.Need-add-page-requires
 add-page-requires c κs =
     let start = c.before.before.before.before in
-    record { room = start.requires.0; square = head-long _ _ start.requires.2 }
+    record { room = start.requires.0; square = head_long _ _ start.requires.2 }
 
 mul-take-targets : tie.Need-overflow-mul-take-targets
 mul-take-targets c = search rules
@@ -55,7 +55,7 @@ returns c =
     let a = start.args in
     let s = a.sums.now in
     let long = start.requires.2 in
-    took _ s long pairs.new.1.1.1.0 (pairs.ensures.long ∙ head-long _ s long) _ a.target.now a.h a.i
+    took _ s long pairs.new.1.1.1.0 (pairs.ensures.long ∙ head_long _ s long) _ a.target.now a.h a.i
     products.new.1.1.1.1.1.0 products.auto.1.1.1.1.1.0 pairs.ensures products.ensures
 
 pub take-page-spec : {M : Type 1} → statement M

@@ -5,7 +5,7 @@ use native.Mathlib.Omega.{arith}
 use lib.Arith.{digits_lt}
 use lib.ListN.{length-set}
 use borrow.Author.Rules.{rules}
-use Rattle.least.proofs.Back.{column-stops, column-goes}
+use Rattle.least.proofs.Back.{column_stops, column_goes}
 use Rattle.least.proofs.inner.back_column.Statement.{statement}
 use Rattle.least.proofs.inner.back_column.Tie as tie
 
@@ -29,7 +29,7 @@ returns : tie.Need-returns
 returns c =
     let read = c.before.before in
     let start = read.before.before.before in
-    (column-stops _ _ _ _ _ (inside start) read.cell.ensures (rw c.before.abs.ensures at c.if1.true), refl)
+    (column_stops _ _ _ _ _ (inside start) read.cell.ensures (rw c.before.abs.ensures at c.if1.true), refl)
 
 add-s : tie.Need-overflow-add-s
 add-s c = search rules
@@ -61,7 +61,7 @@ returns-2 c =
     let test = c.before.before.before.before.before in
     let read = test.before.before in
     let start = read.before.before.before in
-    column-goes _ _ _ _ _ (inside start) read.cell.ensures (omega (arith, start.requires.0)) (rw test.before.abs.ensures at test.if1.false) _ lessened.ensures
+    column_goes _ _ _ _ _ (inside start) read.cell.ensures (omega (arith, start.requires.0)) (rw test.before.abs.ensures at test.if1.false) _ lessened.ensures
 
 pub back-column-spec : {M : Type 1} → statement M
 back-column-spec =

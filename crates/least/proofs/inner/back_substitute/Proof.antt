@@ -4,9 +4,9 @@ use Prim.Native.Nat.{◌*◌, ◌≤◌}
 use native.Mathlib.Omega.{arith}
 use borrow.Author.Rules.{rules}
 use lib.ListN.{length, take, drop}
-use Rattle.steps.specs.Loops.{way_down, way-down-none}
+use Rattle.steps.specs.Loops.{way_down, way_down_none}
 use Rattle.least.specs.Least.{back_column, back}
-use Rattle.least.proofs.Back.{back-goes, back-stops}
+use Rattle.least.proofs.Back.{back_goes, back_stops}
 use Rattle.least.proofs.inner.back_substitute.Statement.{statement}
 use Rattle.least.proofs.inner.back_substitute.Tie as tie
 
@@ -46,7 +46,7 @@ loop-again c =
       omega (arith, test),
       column.back_column.auto.0 ∙ turn.invariant.1,
       column.back_column.ensures.1 ∙ turn.invariant.2,
-      sym (back-goes _ turn.j _ _ _ _ (omega (arith, test)) made c.enum_told.given.1) ∙ turn.invariant.3,
+      sym (back_goes _ turn.j _ _ _ _ (omega (arith, test)) made c.enum_told.given.1) ∙ turn.invariant.3,
     )
 
 enum-told-2 : tie.Need-enum-told-2 invariant-loop decreases-loop
@@ -61,7 +61,7 @@ returns c =
     let test = column.before.before in
     let turn = test.before.loop in
     let made = rw turn.invariant.2 at column.back_column.ensures.0 in
-    back-stops _ turn.j _ _ _ _ (omega (arith, test)) made c.enum-told2.given.1 ∙ turn.invariant.3
+    back_stops _ turn.j _ _ _ _ (omega (arith, test)) made c.enum-told2.given.1 ∙ turn.invariant.3
 
 same-length-2 : tie.Need-same-length-2 invariant-loop decreases-loop
 same-length-2 c = c.before.loop.invariant.1
@@ -70,7 +70,7 @@ returns-2 : tie.Need-returns-2 invariant-loop decreases-loop
 returns-2 c =
     let turn = c.before.loop in
     let all : turn.j ≡ 0 = omega arith in
-    sym (way-down-none _ _) ∙ (rw all at turn.invariant.3)
+    sym (way_down_none _ _) ∙ (rw all at turn.invariant.3)
 
 pub back-substitute-spec : {M : Type 1} → statement M
 back-substitute-spec =

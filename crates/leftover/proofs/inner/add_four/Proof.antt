@@ -8,7 +8,7 @@ use lib.ListN.{length}
 use Rattle.steps.specs.Num.{cell}
 use Rattle.places.specs.Columns.{listed}
 use Rattle.leftover.specs.Error.{products, listed_coeffs}
-use Rattle.leftover.proofs.Walks.{entry_listed, coeff_listed, products_none, products_more, four-more}
+use Rattle.leftover.proofs.Walks.{entry_listed, coeff_listed, products_none, products_more, four_more}
 use Rattle.leftover.proofs.inner.add_four.Statement.{statement}
 use Rattle.leftover.proofs.inner.add_four.Tie as tie
 
@@ -81,7 +81,7 @@ loop-again c =
     let term = named.term_of.ensures in
     let value = coeff_listed _ _ p term valued.coeff-of.ensures in (
       omega arith,
-      products_more _ _ p turn.invariant.1 (entry_listed _ _ _ p term at_first.at-term.ensures) value,
+      products_more _ _ p turn.invariant.1 (entry_listed _ _ _ p term at_first.at_term.ensures) value,
       products_more _ _ p turn.invariant.2 (entry_listed _ _ _ p term at_second.at-term2.ensures) value,
       products_more _ _ p turn.invariant.3 (entry_listed _ _ _ p term at-third.at-term3.ensures) value,
       products_more _ _ p turn.invariant.4 (entry_listed _ _ _ p term c.at-term4.ensures) value,
@@ -141,7 +141,7 @@ returns c =
     let start = end.before.before.before.before.before in
     let all : end.loop.p ≡ start.args.k = omega arith in
     let sums = rw all at end.loop.invariant in
-    four-more _ _ _ _ start.args.i start.args.error at_first.add-square.ensures at_second.add-square2.ensures at-third.add-square3.ensures c.add-square4.ensures
+    four_more _ _ _ _ start.args.i start.args.error at_first.add-square.ensures at_second.add-square2.ensures at-third.add-square3.ensures c.add-square4.ensures
     sums.1 sums.2 sums.3 sums.4
 
 pub add-four-spec : {M : Type 1} → statement M

@@ -5,7 +5,7 @@ use native.Mathlib.Omega.{arith}
 use lib.Arith.{digits_lt}
 use lib.ListN.{length}
 use Rattle.steps.specs.Num.{cell}
-use Rattle.steps.specs.Loops.{loop, loop-none, loop-more, loop-end}
+use Rattle.steps.specs.Loops.{loop, loop_none, loop_more, loop_end}
 use Rattle.lu.specs.Lu.{lu_row, eliminated}
 use Rattle.lu.proofs.inner.eliminate.Statement.{statement}
 use Rattle.lu.proofs.inner.eliminate.Tie as tie
@@ -27,7 +27,7 @@ add-i : tie.Need-overflow-add-i invariant-loop decreases-loop
 add-i c = omega arith
 
 loop-holds : tie.Need-loop-init invariant-loop decreases-loop
-loop-holds c = (omega arith, omega arith, c.before.before.before.requires.0, c.cell.ensures, sym (loop-none _ _ _))
+loop-holds c = (omega arith, omega arith, c.before.before.before.requires.0, c.cell.ensures, sym (loop_none _ _ _))
 
 cell-requires-2 : tie.Need-cell-requires-2 invariant-loop decreases-loop
 cell-requires-2 c κs = entry c.before
@@ -62,7 +62,7 @@ loop-again c =
       omega (arith, within),
       row.auto.0 ∙ put.auto.0 ∙ turn.invariant.2,
       turn.invariant.3,
-      loop-more _ turn.i _ _ turn.invariant.0 turn.invariant.4 (rw (row.ensures, put.ensures, factor.ensures, turn.invariant.3)),
+      loop_more _ turn.i _ _ turn.invariant.0 turn.invariant.4 (rw (row.ensures, put.ensures, factor.ensures, turn.invariant.3)),
     )
 
 same_length : tie.Need-same-length invariant-loop decreases-loop
@@ -72,7 +72,7 @@ returns : tie.Need-returns invariant-loop decreases-loop
 unfolding eliminated
 returns c =
     let turn = c.before.loop in
-    loop-end _ turn.i _ _ _ turn.invariant.4 turn.invariant.1 (omega arith)
+    loop_end _ turn.i _ _ _ turn.invariant.4 turn.invariant.1 (omega arith)
 
 pub eliminate-spec : {M : Type 1} → statement M
 eliminate-spec = tie.close (tie.spec invariant-loop decreases-loop cell-requires add-i loop-holds cell-requires-2 put-requires less-row-requires add-i-2 loop-less loop-again same_length returns)

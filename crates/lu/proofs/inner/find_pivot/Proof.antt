@@ -6,7 +6,7 @@ use native.Mathlib.Omega.{arith}
 use lib.Arith.{digits_lt}
 use borrow.Author.Rules.{rules}
 use Rattle.steps.specs.Num.{cell}
-use Rattle.steps.specs.Loops.{loop, loop-none, loop-more, loop-end}
+use Rattle.steps.specs.Loops.{loop, loop_none, loop_more, loop_end}
 use Rattle.float64.specs.Root.{abs_of}
 use Rattle.lu.specs.Lu.{greater_row, pivot_row}
 use Rattle.lu.proofs.inner.find_pivot.Statement.{statement}
@@ -28,7 +28,7 @@ add-i : tie.Need-overflow-add-i invariant-loop decreases-loop
 add-i c = omega arith
 
 loop-holds : tie.Need-loop-init invariant-loop decreases-loop
-loop-holds c = (omega arith, omega arith, omega arith, sym (loop-none _ _ _), rw (c.abs.ensures, c.before.cell.ensures))
+loop-holds c = (omega arith, omega arith, omega arith, sym (loop_none _ _ _), rw (c.abs.ensures, c.before.cell.ensures))
 
 cell-requires-2 : tie.Need-cell-requires-2 invariant-loop decreases-loop
 cell-requires-2 c κs = let start = c.before.before.before.before.before in rw start.requires.0 (digits_lt c.loop-test.true start.requires.1)
@@ -47,8 +47,8 @@ loop-again c =
     let turn = c.before.before.before.before.loop in
     let v = rw c.before.before.cell2.ensures at c.before.abs2.ensures in
     ⊎_elim
-    (λ w. (omega arith, omega arith, omega (arith, w.2), w.2 ∙ loop-more _ turn.i _ _ turn.invariant.0 turn.invariant.3 (rw (← turn.invariant.4, ← v, w.0.taken)), w.1 ∙ rw w.2 v))
-    (λ w. (omega arith, omega arith, omega (arith, w.2), w.2 ∙ loop-more _ turn.i _ _ turn.invariant.0 turn.invariant.3 (rw (← turn.invariant.4, ← v, w.0.left)), w.1 ∙ rw w.2 turn.invariant.4))
+    (λ w. (omega arith, omega arith, omega (arith, w.2), w.2 ∙ loop_more _ turn.i _ _ turn.invariant.0 turn.invariant.3 (rw (← turn.invariant.4, ← v, w.0.taken)), w.1 ∙ rw w.2 v))
+    (λ w. (omega arith, omega arith, omega (arith, w.2), w.2 ∙ loop_more _ turn.i _ _ turn.invariant.0 turn.invariant.3 (rw (← turn.invariant.4, ← v, w.0.left)), w.1 ∙ rw w.2 turn.invariant.4))
     c.if1.branch
 
 returns : tie.Need-returns invariant-loop decreases-loop
@@ -56,7 +56,7 @@ unfolding pivot_row
 returns c =
     let turn = c.before.loop in
     record {
-      is = loop-end _ turn.i _ _ _ turn.invariant.3 turn.invariant.1 (omega arith);
+      is = loop_end _ turn.i _ _ _ turn.invariant.3 turn.invariant.1 (omega arith);
       greatest = turn.invariant.4;
       within = turn.invariant.2;
     }

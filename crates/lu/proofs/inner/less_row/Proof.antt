@@ -5,7 +5,7 @@ use native.Mathlib.Omega.{arith}
 use lib.Arith.{digits_lt}
 use lib.ListN.{length, set}
 use Rattle.steps.specs.Num.{less, times, cell}
-use Rattle.steps.specs.Loops.{loop, loop-none, loop-more, loop-end}
+use Rattle.steps.specs.Loops.{loop, loop_none, loop_more, loop_end}
 use Rattle.lu.specs.Lu.{less_row}
 use Rattle.lu.proofs.inner.less_row.Statement.{statement}
 use Rattle.lu.proofs.inner.less_row.Tie as tie
@@ -21,7 +21,7 @@ add-j : tie.Need-overflow-add-j invariant-loop decreases-loop
 add-j c = omega arith
 
 loop-holds : tie.Need-loop-init invariant-loop decreases-loop
-loop-holds c = (omega arith, omega arith, c.before.requires.0, sym (loop-none _ _ _))
+loop-holds c = (omega arith, omega arith, c.before.requires.0, sym (loop_none _ _ _))
 
 cell-requires : tie.Need-cell-requires invariant-loop decreases-loop
 cell-requires c κs =
@@ -59,7 +59,7 @@ loop-again c =
       omega (arith, c.before.before.before.before.before.before.before.before),
       omega (arith, c.before.before.before.before.before.before.before.before),
       put.auto.0 ∙ turn.invariant.2,
-      loop-more _ turn.j _ _ turn.invariant.0 turn.invariant.3 (rw (put.ensures, at-cell.cell.ensures, at-cell2.cell2.ensures)),
+      loop_more _ turn.j _ _ turn.invariant.0 turn.invariant.3 (rw (put.ensures, at-cell.cell.ensures, at-cell2.cell2.ensures)),
     )
 
 same_length : tie.Need-same-length invariant-loop decreases-loop
@@ -69,7 +69,7 @@ returns : tie.Need-returns invariant-loop decreases-loop
 unfolding less_row
 returns c =
     let turn = c.before.loop in
-    loop-end _ turn.j _ _ _ turn.invariant.3 turn.invariant.1 (omega arith)
+    loop_end _ turn.j _ _ _ turn.invariant.3 turn.invariant.1 (omega arith)
 
 pub less-row-spec : {M : Type 1} → statement M
 less-row-spec = tie.close (tie.spec invariant-loop decreases-loop add-j loop-holds cell-requires cell-requires-2 put-requires add-j-2 loop-less loop-again same_length returns)

@@ -1,7 +1,7 @@
 -- `lu` meets its contract: the factors, then both substitutions; a refusal leaves the matrix and b as the steps so far made them.
 use mathlib.Core.Path.{◌∙◌}
 use borrow.Author.Rules.{rules}
-use Rattle.lu.proofs.Ends.{lu-stops, lu-goes}
+use Rattle.lu.proofs.Ends.{lu_stops, lu_goes}
 use Rattle.lu.proofs.inner.lu.Statement.{statement}
 use Rattle.lu.proofs.inner.lu.Tie as tie
 
@@ -23,7 +23,7 @@ same-length-2 c = c.before.before.before.before.before.before.lu_factor.auto.1.0
 returns : tie.Need-returns
 returns c =
     let factor = c.before.before.before.before.before.before.lu_factor in
-    lu-stops _ _ _ _ _ _ _ factor.ensures c.enum-told2.given.1
+    lu_stops _ _ _ _ _ _ _ factor.ensures c.enum-told2.given.1
 
 lu-forward-requires : tie.Need-lu-forward-requires
 lu-forward-requires c κs =
@@ -56,7 +56,7 @@ returns-2 c =
     let forward = back.before.before.before.before.before in
     let done = forward.before.before.before in
     let factor = done.before.before.before.before.before.before in
-    lu-goes _ _ _ _ _ _ _ _ factor.lu_factor.ensures done.enum_told.given.1 forward.lu_forward.ensures back.lu_back.ensures
+    lu_goes _ _ _ _ _ _ _ _ factor.lu_factor.ensures done.enum_told.given.1 forward.lu_forward.ensures back.lu_back.ensures
 
 pub lu-spec : {M : Type 1} → statement M
 lu-spec =

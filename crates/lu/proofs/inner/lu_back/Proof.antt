@@ -5,7 +5,7 @@ use native.Mathlib.Omega.{arith}
 use lib.Arith.{digits_lt}
 use lib.ListN.{length, set, length-set}
 use Rattle.steps.specs.Num.{times, over, at, cell}
-use Rattle.steps.specs.Loops.{down-from, down-none, down-more}
+use Rattle.steps.specs.Loops.{down_from, down_none, down_more}
 use Rattle.steps.specs.Sums.{less_sum}
 use Rattle.lu.specs.Lu.{lu_back}
 use Rattle.lu.proofs.inner.lu_back.Statement.{statement}
@@ -13,7 +13,7 @@ use Rattle.lu.proofs.inner.lu_back.Tie as tie
 
 abbrev invariant-loop : tie.invariant-loop
 invariant-loop a b₀ n i₀ b i =
-    (i ≤ n) × (length b ≡ n) × (down-from i (λ r x. set x r (over (less_sum (at x r) (r + 1) n (λ k. times (cell n a r k) (at x k))) (cell n a r r))) b ≡ lu_back n a b₀)
+    (i ≤ n) × (length b ≡ n) × (down_from i (λ r x. set x r (over (less_sum (at x r) (r + 1) n (λ k. times (cell n a r k) (at x k))) (cell n a r r))) b ≡ lu_back n a b₀)
 
 abbrev decreases-loop : tie.decreases-loop
 decreases-loop a b₀ n i₀ b i = i
@@ -49,7 +49,7 @@ loop-again c =
     let turn = within.before.loop in (
       omega (arith, within),
       simp length-set turn.invariant.1,
-      rw (c.cell.ensures, c.before.row-sum.ensures) (sym (down-more _ turn.i turn.b within.loop-test.true) ∙ turn.invariant.2),
+      rw (c.cell.ensures, c.before.row-sum.ensures) (sym (down_more _ turn.i turn.b within.loop-test.true) ∙ turn.invariant.2),
     )
 
 same_length : tie.Need-same-length invariant-loop decreases-loop
@@ -59,7 +59,7 @@ returns : tie.Need-returns invariant-loop decreases-loop
 returns c =
     let turn = c.before.loop in
     let none : turn.i ≡ 0 = omega arith in
-    sym (down-none _ turn.b) ∙ rw none at turn.invariant.2
+    sym (down_none _ turn.b) ∙ rw none at turn.invariant.2
 
 pub lu-back-spec : {M : Type 1} → statement M
 lu-back-spec = tie.close (tie.spec invariant-loop decreases-loop loop-holds sub-i add-row-sum row-sum-requires cell-requires mul-b slice-write-b loop-less loop-again same_length returns)

@@ -12,14 +12,14 @@ use Rattle.lu.proofs.inner.lu_column.Statement.{statement}
 use Rattle.lu.proofs.inner.lu_column.Tie as tie
 
 -- a column whose pivot is small stops there; another one is swapped and eliminated
-column-stops : (n k row : ℕ) (size : Float) (a b : List Float) → Pivots n a k row size → lt size 1e-15 ≡ true → lu_column n k (a, b) ≡ stopped k (a, b)
+column_stops : (n k row : ℕ) (size : Float) (a b : List Float) → Pivots n a k row size → lt size 1e-15 ≡ true → lu_column n k (a, b) ≡ stopped k (a, b)
 unfolding lu_column lu_pivoted
-column-stops n k row size a b p small = rw (← p.is, ← p.greatest, small)
+column_stops n k row size a b p small = rw (← p.is, ← p.greatest, small)
 
-column-goes : (n k row : ℕ) (size : Float) (a b a' b' a'' : List Float) → Pivots n a k row size → lt size 1e-15 ≡ false →
+column_goes : (n k row : ℕ) (size : Float) (a b a' b' a'' : List Float) → Pivots n a k row size → lt size 1e-15 ≡ false →
     (a', b') ≡ lu_swap n k row (a, b) → a'' ≡ eliminated n k a' → lu_column n k (a, b) ≡ going (a'', b')
 unfolding lu_column lu_pivoted lu_eliminate
-column-goes n k row size a b a' b' a'' p large s e = rw (← p.is, ← p.greatest, large, ← s, e)
+column_goes n k row size a b a' b' a'' p large s e = rw (← p.is, ← p.greatest, large, ← s, e)
 
 find-pivot-requires : tie.Need-find-pivot-requires
 find-pivot-requires c κs = search rules
@@ -28,7 +28,7 @@ same_length : tie.Need-same-length
 same_length c = search rules
 
 returns : tie.Need-returns
-returns c = sym (column-stops _ _ _ _ _ _ c.before.before.find-pivot.ensures c.if1.true)
+returns c = sym (column_stops _ _ _ _ _ _ c.before.before.find-pivot.ensures c.if1.true)
 
 swap-both-requires : tie.Need-swap-both-requires
 swap-both-requires c κs = search rules
@@ -47,7 +47,7 @@ returns-2 c =
     let done = c.before.before in
     let swap = done.before.before.before.before.before.before in
     let test = swap.before.before.before in
-    sym (column-goes _ _ _ _ _ _ _ _ _ test.before.before.find-pivot.ensures test.if1.false swap.swap-both.ensures done.eliminate.ensures)
+    sym (column_goes _ _ _ _ _ _ _ _ _ test.before.before.find-pivot.ensures test.if1.false swap.swap-both.ensures done.eliminate.ensures)
 
 pub lu-column-spec : {M : Type 1} → statement M
 lu-column-spec =

@@ -4,8 +4,8 @@ use Prim.Native.Nat.{◌*◌, ◌-◌, ◌≤◌}
 use native.Mathlib.Omega.{arith}
 use lib.ListN.{length}
 use borrow.Author.Rules.{rules}
-use Rattle.steps.specs.Loops.{going, way, way-none}
-use Rattle.refusal.specs.Told.{told-goes, told-stops}
+use Rattle.steps.specs.Loops.{going, way, way_none}
+use Rattle.refusal.specs.Told.{told_goes, told_stops}
 use Rattle.lu.specs.Lu.{lu_column, lu_factor}
 use Rattle.lu.proofs.inner.lu_factor.Statement.{statement}
 use Rattle.lu.proofs.inner.lu_factor.Tie as tie
@@ -17,7 +17,7 @@ abbrev decreases-loop : tie.decreases-loop
 decreases-loop a₀ b₀ n k₀ a b k = n - k
 
 loop-holds : tie.Need-loop-init invariant-loop decreases-loop
-loop-holds c = let start = c.before.before in (omega arith, start.requires.0, start.requires.1, way-none _ _ _)
+loop-holds c = let start = c.before.before in (omega arith, start.requires.0, start.requires.1, way_none _ _ _)
 
 lu-column-requires : tie.Need-lu-column-requires invariant-loop decreases-loop
 lu-column-requires c κs = let within = c.before.before in let turn = within.before.loop in (turn.invariant.1, turn.invariant.2, within.loop-test.true)
@@ -46,7 +46,7 @@ returns c =
     let column = c.before.before.before.before.before.before in
     let within = column.before.before.before in
     let turn = within.before.loop in
-    told-stops _ 0 turn.k _ _ _ _ (omega arith) turn.invariant.3 column.lu_column.ensures _ within.loop-test.true c.enum-told2.given.1
+    told_stops _ 0 turn.k _ _ _ _ (omega arith) turn.invariant.3 column.lu_column.ensures _ within.loop-test.true c.enum-told2.given.1
 
 add-k : tie.Need-overflow-add-k invariant-loop decreases-loop
 add-k c = omega arith
@@ -61,7 +61,7 @@ loop-again c =
       omega arith,
       column.lu_column.auto.0 ∙ turn.invariant.1,
       column.lu_column.auto.1.0 ∙ turn.invariant.2,
-      told-goes _ 0 turn.k _ _ _ _ (omega arith) turn.invariant.3 column.lu_column.ensures c.enum_told.given.1,
+      told_goes _ 0 turn.k _ _ _ _ (omega arith) turn.invariant.3 column.lu_column.ensures c.enum_told.given.1,
     )
 
 same-length-3 : tie.Need-same-length-3 invariant-loop decreases-loop

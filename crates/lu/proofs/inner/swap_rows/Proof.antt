@@ -4,7 +4,7 @@ use Prim.Native.Nat.{◌+◌, ◌*◌, ◌-◌, ◌≤◌, ◌<◌}
 use native.Mathlib.Omega.{arith}
 use lib.Arith.{digits_lt}
 use lib.ListN.{length}
-use Rattle.steps.specs.Loops.{loop, loop-none, loop-more, loop-end}
+use Rattle.steps.specs.Loops.{loop, loop_none, loop_more, loop_end}
 use Rattle.steps.specs.Space.{swapped}
 use Rattle.lu.specs.Lu.{swap_rows}
 use Rattle.lu.proofs.inner.swap_rows.Statement.{statement}
@@ -22,7 +22,7 @@ cells : (c : tie.In-loop invariant-loop decreases-loop) → let args = c.before.
 cells c = let start = c.before.before.before in (digits_lt start.requires.1 c.loop-test.true, digits_lt start.requires.2 c.loop-test.true)
 
 loop-holds : tie.Need-loop-init invariant-loop decreases-loop
-loop-holds c = (omega arith, c.before.requires.0, sym (loop-none _ _ _))
+loop-holds c = (omega arith, c.before.requires.0, sym (loop_none _ _ _))
 
 mul-swap : tie.Need-overflow-mul-swap invariant-loop decreases-loop
 mul-swap c = omega (arith, cells c.before)
@@ -49,7 +49,7 @@ loop-again : tie.Need-loop-preserved invariant-loop decreases-loop
 loop-again c =
     let turn = c.before.before.before.before.before.loop in
     let swap = c.before.before.swap in
-    (omega (arith, c.before.before.before.before), swap.auto.0 ∙ turn.invariant.1, loop-more 0 turn.j _ _ (omega arith) turn.invariant.2 swap.ensures)
+    (omega (arith, c.before.before.before.before), swap.auto.0 ∙ turn.invariant.1, loop_more 0 turn.j _ _ (omega arith) turn.invariant.2 swap.ensures)
 
 same_length : tie.Need-same-length invariant-loop decreases-loop
 same_length c = c.before.loop.invariant.1 ∙ sym c.before.before.before.requires.0
@@ -58,7 +58,7 @@ returns : tie.Need-returns invariant-loop decreases-loop
 unfolding swap_rows
 returns c =
     let turn = c.before.loop in
-    loop-end 0 turn.j _ _ _ turn.invariant.2 turn.invariant.0 (omega arith)
+    loop_end 0 turn.j _ _ _ turn.invariant.2 turn.invariant.0 (omega arith)
 
 pub swap-rows-spec : {M : Type 1} → statement M
 swap-rows-spec = tie.close (tie.spec invariant-loop decreases-loop loop-holds mul-swap add-swap mul-swap-2 add-swap-2 swap-requires add-j loop-less loop-again same_length returns)

@@ -1,6 +1,6 @@
 -- `normal_equations` meets its contract: both solves see a copy of the matrix.
 use borrow.Author.Rules.{rules}
-use Rattle.normal.specs.Ends.{normal-goes, normal-by-lu}
+use Rattle.normal.specs.Ends.{normal_goes, normal_by_lu}
 use Rattle.normal.proofs.inner.normal_equations.Statement.{statement}
 use Rattle.normal.proofs.inner.normal_equations.Tie as tie
 
@@ -35,7 +35,7 @@ returns c =
     let refused = again.before.before in
     let cholesky = refused.before.before.before.before.before.before in
     let copy = cholesky.before.before.before.before.before in
-    normal-by-lu _ _ _ _ lu.lu.result _ _ _ lu.lu.new.0 lu.lu.new.1.0
+    normal_by_lu _ _ _ _ lu.lu.result _ _ _ lu.lu.new.0 lu.lu.new.1.0
     (rw copy.copy.ensures at cholesky.cholesky.ensures) refused.enum-told2.given.1 (rw again.copy2.ensures at lu.lu.ensures)
 
 same-length-3 : tie.Need-same-length-3
@@ -48,7 +48,7 @@ returns-2 : tie.Need-returns-2
 returns-2 c =
     let cholesky = c.before.before.before.before.before.before in
     let copy = cholesky.before.before.before.before.before in
-    normal-goes _ _ _ _ _ _ (rw copy.copy.ensures at cholesky.cholesky.ensures) c.enum_told.given.1
+    normal_goes _ _ _ _ _ _ (rw copy.copy.ensures at cholesky.cholesky.ensures) c.enum_told.given.1
 
 pub normal-equations-spec : {M : Type 1} → statement M
 normal-equations-spec =

@@ -1,6 +1,6 @@
 -- `put_four` meets its contract: its four stores, one after another.
 use borrow.Author.Rules.{rules}
-use Rattle.pairs.proofs.Puts.{four-put}
+use Rattle.pairs.proofs.Puts.{four_put}
 use Rattle.pairs.proofs.fours.put_four.Statement.{statement}
 use Rattle.pairs.proofs.fours.put_four.Tie as tie
 
@@ -35,7 +35,7 @@ returns c =
     let second = third.before.before.before.before in
     let first = second.before.before.before.before in
     let pre = first.before.before.before.requires in
-    rw (fourth.put4.ensures, third.put3.ensures, second.put2.ensures, first.put.ensures) (four-put _ _ _ _ _ pre.0 pre.1)
+    rw (fourth.put4.ensures, third.put3.ensures, second.put2.ensures, first.put.ensures) (four_put _ _ _ _ _ pre.0 pre.1)
 
 pub put-four-spec : {M : Type 1} → statement M
 put-four-spec = tie.close (tie.spec put-requires add-put put-requires-2 add-put-2 put-requires-3 add-put-3 put-requires-4 same_length returns)

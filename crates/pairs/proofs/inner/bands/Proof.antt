@@ -3,7 +3,7 @@ use mathlib.Core.Path.{◌≡◌}
 use Prim.Native.Nat.{◌+◌, ◌-◌, ◌*◌, ◌≤◌}
 use native.Mathlib.Omega.{arith}
 use Rattle.pairs.specs.Grown.{Grew}
-use Rattle.pairs.proofs.Changes.{fits-still, no_row, below, from_zero}
+use Rattle.pairs.proofs.Changes.{fits_still, no_row, below, from_zero}
 use Rattle.pairs.proofs.inner.bands.Statement.{statement}
 use Rattle.pairs.proofs.inner.bands.Tie as tie
 
@@ -29,7 +29,7 @@ tiles-requires : tie.Need-tiles-requires invariant-loop decreases-loop
 tiles-requires c κs =
     let head = c.before.before in
     let pre = head.before.before.before.requires in
-    (fits-still _ _ _ _ pre.0 _ head.loop.invariant.1.long, omega arith, omega arith)
+    (fits_still _ _ _ _ pre.0 _ head.loop.invariant.1.long, omega arith, omega arith)
 
 add-band : tie.Need-overflow-add-band invariant-loop decreases-loop
 add-band c = omega arith

@@ -3,7 +3,7 @@ use mathlib.Core.Path.{◌≡◌, refl, ◌∙◌}
 use Prim.Native.Nat.{◌-◌, ◌≤◌}
 use native.Mathlib.Omega.{arith}
 use Rattle.pairs.specs.Grown.{Grew}
-use Rattle.pairs.proofs.Changes.{fits-still, no_row, beside, below, from_zero}
+use Rattle.pairs.proofs.Changes.{fits_still, no_row, beside, below, from_zero}
 use Rattle.pairs.proofs.inner.edge.Statement.{statement}
 use Rattle.pairs.proofs.inner.edge.Tie as tie
 
@@ -20,14 +20,14 @@ ones-requires : tie.Need-ones-requires invariant-loop decreases-loop
 ones-requires c κs =
     let head = c.before.before in
     let pre = head.before.before.before.requires in
-    (fits-still _ _ _ _ pre.0 _ head.loop.invariant.1.long, omega arith, omega arith)
+    (fits_still _ _ _ _ pre.0 _ head.loop.invariant.1.long, omega arith, omega arith)
 
 fours-requires : tie.Need-fours-requires invariant-loop decreases-loop
 fours-requires c κs =
     let left = c.before.before.before in
     let head = left.before.before.before in
     let pre = head.before.before.before.requires in
-    (fits-still _ _ _ _ pre.0 _ (left.ones.ensures.long ∙ head.loop.invariant.1.long), omega arith, pre.1)
+    (fits_still _ _ _ _ pre.0 _ (left.ones.ensures.long ∙ head.loop.invariant.1.long), omega arith, pre.1)
 
 add-p : tie.Need-overflow-add-p invariant-loop decreases-loop
 add-p c = omega arith

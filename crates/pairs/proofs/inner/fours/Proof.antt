@@ -3,7 +3,7 @@ use mathlib.Core.Path.{◌≡◌}
 use Prim.Native.Nat.{◌+◌, ◌-◌, ◌*◌, ◌≤◌}
 use native.Mathlib.Omega.{arith}
 use Rattle.pairs.specs.Grown.{Grew}
-use Rattle.pairs.proofs.Changes.{fits-still, no-column, beside}
+use Rattle.pairs.proofs.Changes.{fits_still, no_column, beside}
 use Rattle.pairs.proofs.inner.fours.Statement.{statement}
 use Rattle.pairs.proofs.inner.fours.Tie as tie
 
@@ -14,7 +14,7 @@ abbrev decreases-loop : tie.decreases-loop
 decreases-loop page n h p k m out₀ four₀ out four = m - four
 
 loop-holds : tie.Need-loop-init invariant-loop decreases-loop
-loop-holds c = (omega arith, no-column _ _ _ _ _ _ _ (omega arith))
+loop-holds c = (omega arith, no_column _ _ _ _ _ _ _ (omega arith))
 
 mul-sum-four : tie.Need-overflow-mul-sum-four invariant-loop decreases-loop
 mul-sum-four c = omega arith
@@ -26,7 +26,7 @@ sum-four-requires : tie.Need-sum-four-requires invariant-loop decreases-loop
 sum-four-requires c κs =
     let head = c.before.before in
     let pre = head.before.before.before.requires in
-    (fits-still _ _ _ _ pre.0 _ head.loop.invariant.1.long, pre.1, omega arith)
+    (fits_still _ _ _ _ pre.0 _ head.loop.invariant.1.long, pre.1, omega arith)
 
 add-four : tie.Need-overflow-add-four invariant-loop decreases-loop
 add-four c = omega arith

@@ -3,7 +3,7 @@ use mathlib.Core.Path.{◌≡◌, refl}
 use Prim.Native.Nat.{◌+◌, ◌-◌, ◌≤◌}
 use native.Mathlib.Omega.{arith}
 use Rattle.pairs.specs.Grown.{Grew, with_rows}
-use Rattle.pairs.proofs.Changes.{in-square, fits-still, no-column, beside, one_entry}
+use Rattle.pairs.proofs.Changes.{in_square, fits_still, no_column, beside, one_entry}
 use Rattle.pairs.proofs.inner.ones.Statement.{statement}
 use Rattle.pairs.proofs.inner.ones.Tie as tie
 
@@ -14,19 +14,19 @@ abbrev decreases-loop : tie.decreases-loop
 decreases-loop page n h p k out₀ q₀ out q = k - q
 
 loop-holds : tie.Need-loop-init invariant-loop decreases-loop
-loop-holds c = (omega arith, omega arith, no-column _ _ _ _ _ _ _ (omega arith))
+loop-holds c = (omega arith, omega arith, no_column _ _ _ _ _ _ _ (omega arith))
 
 sum-one-requires : tie.Need-sum-one-requires invariant-loop decreases-loop
 sum-one-requires c κs =
     let head = c.before.before in
     let pre = head.before.before.before.requires in
-    (fits-still _ _ _ _ pre.0 _ head.loop.invariant.2.long, omega arith, omega arith)
+    (fits_still _ _ _ _ pre.0 _ head.loop.invariant.2.long, omega arith, omega arith)
 
 put-requires : tie.Need-put-requires invariant-loop decreases-loop
 put-requires c κs =
     let head = c.before.before.before.before in
     let start = head.before.before.before in
-    omega (arith, head.loop.invariant.2.long, in-square _ _ _ _ start.requires.0 (start.args.p + 1) (omega arith))
+    omega (arith, head.loop.invariant.2.long, in_square _ _ _ _ start.requires.0 (start.args.p + 1) (omega arith))
 
 add-q : tie.Need-overflow-add-q invariant-loop decreases-loop
 add-q c = omega arith
@@ -42,7 +42,7 @@ loop-again c =
     let head = sum.before.before.before in
     let start = head.before.before.before in
     let turn = head.loop in
-    let room = in-square _ _ _ _ start.requires.0 (start.args.p + 1) (omega arith) in (
+    let room = in_square _ _ _ _ start.requires.0 (start.args.p + 1) (omega arith) in (
       omega arith,
       omega arith,
       rw put.put.ensures

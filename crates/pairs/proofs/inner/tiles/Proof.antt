@@ -3,7 +3,7 @@ use mathlib.Core.Path.{◌≡◌}
 use Prim.Native.Nat.{◌+◌, ◌-◌, ◌*◌, ◌≤◌}
 use native.Mathlib.Omega.{arith}
 use Rattle.pairs.specs.Grown.{Grew}
-use Rattle.pairs.proofs.Changes.{fits-still, no-column, beside}
+use Rattle.pairs.proofs.Changes.{fits_still, no_column, beside}
 use Rattle.pairs.proofs.inner.tiles.Statement.{statement}
 use Rattle.pairs.proofs.inner.tiles.Tie as tie
 
@@ -14,7 +14,7 @@ abbrev decreases-loop : tie.decreases-loop
 decreases-loop page n h p m out₀ tile₀ out tile = m - tile
 
 loop-holds : tie.Need-loop-init invariant-loop decreases-loop
-loop-holds c = (omega arith, no-column _ _ _ _ _ _ _ (omega arith))
+loop-holds c = (omega arith, no_column _ _ _ _ _ _ _ (omega arith))
 
 mul-sum-tile : tie.Need-overflow-mul-sum-tile invariant-loop decreases-loop
 mul-sum-tile c = omega arith
@@ -26,7 +26,7 @@ sum-tile-requires : tie.Need-sum-tile-requires invariant-loop decreases-loop
 sum-tile-requires c κs =
     let head = c.before.before in
     let pre = head.before.before.before.requires in
-    (fits-still _ _ _ _ pre.0 _ head.loop.invariant.1.long, pre.1, omega arith)
+    (fits_still _ _ _ _ pre.0 _ head.loop.invariant.1.long, pre.1, omega arith)
 
 add-tile : tie.Need-overflow-add-tile invariant-loop decreases-loop
 add-tile c = omega arith

@@ -5,8 +5,8 @@ use native.Mathlib.Omega.{arith}
 use borrow.Author.Rules.{rules}
 use Rattle.pairs.specs.Grown.{with_rows}
 use Rattle.pairs.specs.Tiles.{FourOf}
-use Rattle.pairs.proofs.Changes.{in-page, in-square, put_grown}
-use Rattle.pairs.proofs.Sofar.{four-none, four-more}
+use Rattle.pairs.proofs.Changes.{in_page, in_square, put_grown}
+use Rattle.pairs.proofs.Sofar.{four_none, four_more}
 use Rattle.pairs.proofs.kernel.sum_four.Statement.{statement}
 use Rattle.pairs.proofs.kernel.sum_four.Tie as tie
 
@@ -19,21 +19,21 @@ decreases-loop page n h p q out s₀ i₀ s i = h - i
 four-at-requires : tie.Need-four-at-requires invariant-loop decreases-loop
 four-at-requires c κs =
     let pre = c.before.before.before.requires in
-    (in-square _ _ _ _ pre.0 _ (omega arith), pre.2)
+    (in_square _ _ _ _ pre.0 _ (omega arith), pre.2)
 
 loop-holds : tie.Need-loop-init invariant-loop decreases-loop
-loop-holds c = (omega arith, four-none _ _ _ _ _ _ c.four-at.ensures)
+loop-holds c = (omega arith, four_none _ _ _ _ _ _ c.four-at.ensures)
 
 four-at-requires-2 : tie.Need-four-at-requires-2 invariant-loop decreases-loop
 four-at-requires-2 c κs =
     let pre = c.before.before.before.before.before.before.requires in
-    (in-page _ _ _ _ pre.0 _ c.loop-test.true, pre.2)
+    (in_page _ _ _ _ pre.0 _ c.loop-test.true, pre.2)
 
 cell-requires : tie.Need-cell-requires invariant-loop decreases-loop
 cell-requires c κs =
     let test = c.before in
     let pre = test.before.before.before.before.before.before.requires in
-    omega (arith, in-page _ _ _ _ pre.0 _ test.loop-test.true, pre.1)
+    omega (arith, in_page _ _ _ _ pre.0 _ test.loop-test.true, pre.1)
 
 four-more-requires : tie.Need-four-more-requires invariant-loop decreases-loop
 four-more-requires c κs = tt
@@ -50,12 +50,12 @@ loop-again c =
     let y = x.before in
     let test = y.before in
     let turn = test.before.loop in
-    (omega (arith, test.loop-test.true), four-more _ _ _ turn.i _ _ _ _ _ _ turn.invariant.1 x.cell.ensures y.four-at2.ensures c.four-more.ensures)
+    (omega (arith, test.loop-test.true), four_more _ _ _ turn.i _ _ _ _ _ _ turn.invariant.1 x.cell.ensures y.four-at2.ensures c.four_more.ensures)
 
 put-four-requires : tie.Need-put-four-requires invariant-loop decreases-loop
 put-four-requires c κs =
     let pre = c.before.before.before.before.before.before.before.requires in
-    (in-square _ _ _ _ pre.0 _ (omega arith), pre.2)
+    (in_square _ _ _ _ pre.0 _ (omega arith), pre.2)
 
 same_length : tie.Need-same-length invariant-loop decreases-loop
 same_length c = search rules

@@ -3,7 +3,7 @@ use mathlib.Core.Path.{◌≡◌, ◌∙◌}
 use Prim.Native.Nat.{◌+◌, ◌-◌, ◌≤◌}
 use native.Mathlib.Omega.{arith}
 use Rattle.pairs.specs.Grown.{with_rows}
-use Rattle.pairs.proofs.Changes.{in-page, in-square}
+use Rattle.pairs.proofs.Changes.{in_page, in_square}
 use Rattle.pairs.proofs.Sofar.{one_none, one_more}
 use Rattle.pairs.proofs.kernel.sum_one.Statement.{statement}
 use Rattle.pairs.proofs.kernel.sum_one.Tie as tie
@@ -17,7 +17,7 @@ decreases-loop page n h p q out s₀ i₀ s i = h - i
 cell-requires : tie.Need-cell-requires invariant-loop decreases-loop
 cell-requires c κs =
     let start = c.before.before in
-    omega (arith, in-square _ _ _ _ start.requires.0 (start.args.p + 1) (omega arith))
+    omega (arith, in_square _ _ _ _ start.requires.0 (start.args.p + 1) (omega arith))
 
 loop-holds : tie.Need-loop-init invariant-loop decreases-loop
 loop-holds c = (omega arith, c.cell.ensures ∙ one_none _ _ _ _ _)
@@ -25,12 +25,12 @@ loop-holds c = (omega arith, c.cell.ensures ∙ one_none _ _ _ _ _)
 cell-requires-2 : tie.Need-cell-requires-2 invariant-loop decreases-loop
 cell-requires-2 c κs =
     let start = c.before.before.before.before.before in
-    omega (arith, in-page _ _ _ _ start.requires.0 _ c.loop-test.true)
+    omega (arith, in_page _ _ _ _ start.requires.0 _ c.loop-test.true)
 
 cell-requires-3 : tie.Need-cell-requires-3 invariant-loop decreases-loop
 cell-requires-3 c κs =
     let start = c.before.before.before.before.before.before in
-    omega (arith, in-page _ _ _ _ start.requires.0 _ c.before.loop-test.true)
+    omega (arith, in_page _ _ _ _ start.requires.0 _ c.before.loop-test.true)
 
 add-i : tie.Need-overflow-add-i invariant-loop decreases-loop
 add-i c = omega arith

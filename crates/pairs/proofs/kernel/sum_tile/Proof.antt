@@ -5,8 +5,8 @@ use native.Mathlib.Omega.{arith}
 use borrow.Author.Rules.{rules}
 use Rattle.pairs.specs.Grown.{with_rows}
 use Rattle.pairs.specs.Tiles.{TileOf}
-use Rattle.pairs.proofs.Changes.{in-page, in-square, put_grown}
-use Rattle.pairs.proofs.Sofar.{tile-none, tile-more}
+use Rattle.pairs.proofs.Changes.{in_page, in_square, put_grown}
+use Rattle.pairs.proofs.Sofar.{tile_none, tile_more}
 use Rattle.pairs.proofs.kernel.sum_tile.Statement.{statement}
 use Rattle.pairs.proofs.kernel.sum_tile.Tie as tie
 
@@ -19,21 +19,21 @@ decreases-loop page n h p q out s₀ i₀ s i = h - i
 tile-at-requires : tie.Need-tile-at-requires invariant-loop decreases-loop
 tile-at-requires c κs =
     let pre = c.before.before.before.requires in
-    (in-square _ _ _ _ pre.0 _ pre.1, pre.1, pre.2)
+    (in_square _ _ _ _ pre.0 _ pre.1, pre.1, pre.2)
 
 loop-holds : tie.Need-loop-init invariant-loop decreases-loop
-loop-holds c = (omega arith, tile-none _ _ _ _ _ _ c.tile-at.ensures)
+loop-holds c = (omega arith, tile_none _ _ _ _ _ _ c.tile-at.ensures)
 
 four-at-requires : tie.Need-four-at-requires invariant-loop decreases-loop
 four-at-requires c κs =
     let pre = c.before.before.before.before.before.before.requires in
-    (in-page _ _ _ _ pre.0 _ c.loop-test.true, pre.1)
+    (in_page _ _ _ _ pre.0 _ c.loop-test.true, pre.1)
 
 four-at-requires-2 : tie.Need-four-at-requires-2 invariant-loop decreases-loop
 four-at-requires-2 c κs =
     let test = c.before in
     let pre = test.before.before.before.before.before.before.requires in
-    (in-page _ _ _ _ pre.0 _ test.loop-test.true, pre.2)
+    (in_page _ _ _ _ pre.0 _ test.loop-test.true, pre.2)
 
 tile-more-requires : tie.Need-tile-more-requires invariant-loop decreases-loop
 tile-more-requires c κs = tt
@@ -53,12 +53,12 @@ loop-again c =
     let x = y.before in
     let test = x.before in
     let turn = test.before.loop in
-    (omega (arith, test.loop-test.true), tile-more _ _ _ turn.i _ _ _ _ _ _ turn.invariant.1 x.four-at.ensures y.four-at2.ensures c.tile-more.ensures)
+    (omega (arith, test.loop-test.true), tile_more _ _ _ turn.i _ _ _ _ _ _ turn.invariant.1 x.four-at.ensures y.four-at2.ensures c.tile_more.ensures)
 
 put-tile-requires : tie.Need-put-tile-requires invariant-loop decreases-loop
 put-tile-requires c κs =
     let pre = c.before.before.before.before.before.before.before.requires in
-    (in-square _ _ _ _ pre.0 _ pre.1, pre.1, pre.2)
+    (in_square _ _ _ _ pre.0 _ pre.1, pre.1, pre.2)
 
 same_length : tie.Need-same-length invariant-loop decreases-loop
 same_length c = search rules

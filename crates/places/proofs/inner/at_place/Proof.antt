@@ -16,7 +16,7 @@ at-term-requires c κs =
 
 returns : tie.Need-returns
 unfolding listed
-returns c = rw (← c.before.term_of.ensures) c.at-term.ensures
+returns c = rw (← c.before.term_of.ensures) c.at_term.ensures
 
 pub at-place-spec : {M : Type 1} → statement M
 at-place-spec = tie.close (tie.spec term-of-requires at-term-requires returns)

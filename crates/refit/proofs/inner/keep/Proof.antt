@@ -10,7 +10,7 @@ use Rattle.rule.specs.Fits.{matrix_of}
 use Rattle.refit.proofs.Methods.{from_sums, from_rows}
 use Rattle.refit.proofs.Large.{sums_fit}
 use Rattle.refit.proofs.Joined.{length_head}
-use Rattle.refit.proofs.Kept.{kept-now, none_kept}
+use Rattle.refit.proofs.Kept.{kept_now, none_kept}
 use Rattle.refit.proofs.inner.keep.Statement.{statement}
 use Rattle.refit.proofs.inner.keep.Tie as tie
 
@@ -67,7 +67,7 @@ returns c =
     let sums = c.before.before.keep-sums in
     let told = c.before.before.before.before in
     let a = (start told).args in
-    kept-now a.task a.theta.now a.target.now sums.new.1.1.1.1.1.0 _
+    kept_now a.task a.theta.now a.target.now sums.new.1.1.1.1.1.0 _
     (sums.auto.1.1.1.1.1.0 ∙ long told) sums.ensures
 
 returns-2 : tie.Need-returns-2

@@ -4,8 +4,8 @@ use borrow.Author.Rules.{rules}
 use Rattle.sums.specs.declared.inner.Damping.{Damping}
 use Rattle.rule.specs.declared.Solver.TheVariants.{Qr}
 use Rattle.refit.proofs.Methods.{FromSums, from_sums, from_rows}
-use Rattle.refit.proofs.Large.{block-fits}
-use Rattle.refit.proofs.Kept.{kept-is, kept_on, none_kept}
+use Rattle.refit.proofs.Large.{block_fits}
+use Rattle.refit.proofs.Kept.{kept_is, kept_on, none_kept}
 use Rattle.refit.proofs.inner.solve_columns.Statement.{statement}
 use Rattle.refit.proofs.inner.solve_columns.Tie as tie
 
@@ -38,7 +38,7 @@ solve-normal-requires : tie.Need-solve-normal-requires
 solve-normal-requires c κs =
     let sums = c.before.before in
     let s = (begin sums).requires.0 in
-    (s.sized.limited.few_cols, s.within, s.count, block-fits s (begin sums).requires.1 (from sums))
+    (s.sized.limited.few_cols, s.within, s.count, block_fits s (begin sums).requires.1 (from sums))
 
 enum_told : tie.Need-enum-told
 enum_told c = search rules
@@ -61,7 +61,7 @@ returns c =
     let pre = (begin sums).requires in
     let a = (begin sums).args in
     let made = solve.solve-normal.ensures in (
-      made.0 ∙ kept-is a.task a.theta.now a.target.now (from sums) a.ws.now a.support.0 pre.2 pre.0.within,
+      made.0 ∙ kept_is a.task a.theta.now a.target.now (from sums) a.ws.now a.support.0 pre.2 pre.0.within,
       kept_on a.task a.theta.now a.target.now a.ws.now _ made.1 pre.2,
     )
 

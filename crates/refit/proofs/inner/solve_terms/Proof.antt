@@ -8,7 +8,7 @@ use lib.Count.{ones-le}
 use lib.ListN.{length, drop, length-append, length-drop}
 use lib.Ieee.{Float}
 use Rattle.refit.proofs.Joined.{length_head}
-use Rattle.refit.proofs.Ends.{refused-out, done-out}
+use Rattle.refit.proofs.Ends.{refused_out, done_out}
 use Rattle.refit.proofs.inner.solve_terms.Statement.{statement}
 use Rattle.refit.proofs.inner.solve_terms.Tie as tie
 
@@ -80,7 +80,7 @@ returns c =
     let solve = told.before.before.before.before.before.before in
     let n = counted solve in
     let made = solve.solve-columns.ensures in (
-      done-out _ _ _ solve.solve-columns.result (values solve) (rest solve) told.enum_told.given.1 made.0
+      done_out _ _ _ solve.solve-columns.result (values solve) (rest solve) told.enum_told.given.1 made.0
           (all solve) (start n).pre.1 (long solve ∙ n.count.ensures) put.scatter.ensures,
       made.1,
     )
@@ -96,7 +96,7 @@ returns-2 c =
     let refused = c.before.before in
     let solve = refused.before.before.before.before.before.before in
     let made = solve.solve-columns.ensures in
-    (refused-out _ _ _ solve.solve-columns.result _ _ _ refused.col.given.1 c.term_at.ensures made.0, made.1)
+    (refused_out _ _ _ solve.solve-columns.result _ _ _ refused.col.given.1 c.term_at.ensures made.0, made.1)
 
 pub solve-terms-spec : {M : Type 1} → statement M
 solve-terms-spec =

@@ -6,7 +6,7 @@ use borrow.Author.Rules.{rules}
 use lib.ListN.{length}
 use lib.Ieee.{Float}
 use Rattle.rule.specs.declared.Task.{Task}
-use Rattle.rounds.proofs.Look.{tested_yes, tested_no, support_fits, turn-empty, turn-settled, turn-refused, turn-again}
+use Rattle.rounds.proofs.Look.{tested_yes, tested_no, support_fits, turn_empty, turn_settled, turn_refused, turn_again}
 use Rattle.rounds.proofs.inner.round.Statement.{statement}
 use Rattle.rounds.proofs.inner.round.Tie as tie
 
@@ -72,7 +72,7 @@ returns c =
     let empty = at_clear.before.before in
     let l = empty.before.before.before in
     let a = (start l).args in (
-      turn-empty a.task a.theta.now a.target.now a.last.0 a.coeffs.now (long l) l.support-of.result l.support-of.ensures
+      turn_empty a.task a.theta.now a.target.now a.last.0 a.coeffs.now (long l) l.support-of.result l.support-of.ensures
           (tested_yes _ _ 0 empty.before.same.ensures empty.before.before.empty.ensures empty.if1.true) at_clear.clear.ensures,
       (start l).requires.1,
     )
@@ -87,7 +87,7 @@ returns-2 : tie.Need-returns-2
 returns-2 c =
     let l = looked c.before.before in
     let a = (start l).args in (
-      turn-settled a.task a.theta.now a.target.now a.last.0 a.coeffs.now (long l) l.support-of.result l.support-of.ensures
+      turn_settled a.task a.theta.now a.target.now a.last.0 a.coeffs.now (long l) l.support-of.result l.support-of.ensures
           (some c.before.before) (tested_yes _ _ _ c.before.same2.ensures refl c.if2.true),
       (start l).pre.1,
     )
@@ -116,7 +116,7 @@ returns-3 : tie.Need-returns-3
 returns-3 c =
     let s = c.before.before.before.before.before.before in
     let a = (start (over s)).args in (
-      turn-again a.task a.theta.now a.target.now a.last.0 a.coeffs.now (long (over s)) (over s).support-of.result (over s).support-of.ensures
+      turn_again a.task a.theta.now a.target.now a.last.0 a.coeffs.now (long (over s)) (over s).support-of.result (over s).support-of.ensures
           (some (tested s).before.before) (other (tested s)) s.solve-terms.result (new-coeffs s) s.solve-terms.ensures.0 c.enum_told.given.1,
       s.solve-terms.ensures.1,
     )
@@ -133,7 +133,7 @@ returns-4 c =
     let refused = at_clear.before.before.before in
     let s = refused.before.before.before.before.before.before in
     let a = (start (over s)).args in (
-      turn-refused a.task a.theta.now a.target.now a.last.0 a.coeffs.now (long (over s)) (over s).support-of.result (over s).support-of.ensures
+      turn_refused a.task a.theta.now a.target.now a.last.0 a.coeffs.now (long (over s)) (over s).support-of.result (over s).support-of.ensures
           (some (tested s).before.before) (other (tested s)) s.solve-terms.result (new-coeffs s) s.solve-terms.ensures.0
           _ _ refused.term.given.1 (new-long s) at_clear.clear2.ensures,
       s.solve-terms.ensures.1,

@@ -14,7 +14,7 @@ use Rattle.rule.specs.Sizes.{Ready, still}
 use Rattle.refit.specs.Parts.{Kept}
 use Rattle.rounds.specs.Turned.{Turned}
 use Rattle.rounds.specs.declared.inner.Turn.{Turn}
-use Rattle.rounds.proofs.Turns.{Going, used_up, goes_on, ends-empty, ends-settled, ends-refused}
+use Rattle.rounds.proofs.Turns.{Going, used_up, goes_on, ends_empty, ends_settled, ends_refused}
 use Rattle.rounds.proofs.Look.{support_found, look_drops}
 use Rattle.rounds.proofs.inner.rounds.Statement.{statement}
 use Rattle.rounds.proofs.inner.rounds.Tie as tie
@@ -32,14 +32,14 @@ module _ (c : tie.In-loop invariant-loop decreases-loop) where
   abbrev start : tie.Start invariant-loop decreases-loop
   start = c.before.before.before.before.before.before.before.before
 
-  in-limit : c.before.loop.refits < start.args.task.setup.max_iter
-  in-limit = omega (arith, c.loop-test.true, c.before.loop.invariant.0)
+  in_limit : c.before.loop.refits < start.args.task.setup.max_iter
+  in_limit = omega (arith, c.loop-test.true, c.before.loop.invariant.0)
 
   ready : Ready start.args.task start.args.theta.now start.args.target.now c.before.loop.coeffs c.before.loop.ws
   ready = still start.pre.0 c.before.loop.invariant.2 c.before.loop.invariant.3
 
   few : c.before.loop.refits ≤ 1000
-  few = omega (arith, in-limit, start.pre.0.sized.limited.few_rounds)
+  few = omega (arith, in_limit, start.pre.0.sized.limited.few_rounds)
 
 -- after its round
 module _ (c : tie.After-round invariant-loop decreases-loop) where
@@ -126,7 +126,7 @@ same-length-2 c = same-space c.before.before.before.before.before.before
 returns : tie.Need-returns invariant-loop decreases-loop
 returns c =
     let r = c.before.before.before.before.before.before in
-    ends-empty (P r) (term-idx r) (so_far r) (seen r) (in-limit (turn r)) (came r _ c.enum_told.given.1)
+    ends_empty (P r) (term-idx r) (so_far r) (seen r) (in_limit (turn r)) (came r _ c.enum_told.given.1)
 
 enum-told-2 : tie.Need-enum-told-2 invariant-loop decreases-loop
 enum-told-2 c = search rules
@@ -140,7 +140,7 @@ same-length-4 c = same-space c.before.before.before.before.before.before
 returns-2 : tie.Need-returns-2 invariant-loop decreases-loop
 returns-2 c =
     let r = c.before.before.before.before.before.before in
-    ends-settled (P r) (term-idx r) (so_far r) (seen r) (in-limit (turn r)) (came r _ c.enum-told2.given.1)
+    ends_settled (P r) (term-idx r) (so_far r) (seen r) (in_limit (turn r)) (came r _ c.enum-told2.given.1)
 
 enum-known-term : tie.Need-enum-known-term invariant-loop decreases-loop
 enum-known-term c = search rules
@@ -158,7 +158,7 @@ same-length-6 c = same-space c.before.before.before.before.before.before.before
 returns-3 : tie.Need-returns-3 invariant-loop decreases-loop
 returns-3 c =
     let r = c.before.before.before.before.before.before.before in
-    ends-refused (P r) (term-idx r) (so_far r) (seen r) (in-limit (turn r)) _ (came r _ c.before.term.given.1)
+    ends_refused (P r) (term-idx r) (so_far r) (seen r) (in_limit (turn r)) _ (came r _ c.before.term.given.1)
 
 add-refits : tie.Need-overflow-add-refits invariant-loop decreases-loop
 add-refits c = search rules
@@ -172,7 +172,7 @@ loop-again : tie.Need-loop-preserved invariant-loop decreases-loop
 loop-again c =
     let r = c.before.before.before.before.before.before.before in
     let inv = (turn r).before.loop.invariant in
-    (inv.0, omega (arith, in-limit (turn r)), same-coeffs r, same-space r, goes_on (P r) (term-idx r) (so_far r) (seen r) _ (came r _ c.before.support.given.1), r.round.ensures.1)
+    (inv.0, omega (arith, in_limit (turn r)), same-coeffs r, same-space r, goes_on (P r) (term-idx r) (so_far r) (seen r) _ (came r _ c.before.support.given.1), r.round.ensures.1)
 
 support-of-requires : tie.Need-support-of-requires invariant-loop decreases-loop
 support-of-requires c κs = omega (arith, coeffs_long c.before, (begin c.before).pre.0.sized.limited.few_cols)

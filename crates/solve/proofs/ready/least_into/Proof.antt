@@ -4,7 +4,7 @@ use Prim.Native.Nat.{◌+◌, ◌-◌}
 use native.Mathlib.Omega.{arith}
 use lib.ListN.{length}
 use borrow.Author.Rules.{rules}
-use Rattle.solve.proofs.Ends.{least-stops, least-solves}
+use Rattle.solve.proofs.Ends.{least_stops, least_solves}
 use Rattle.solve.proofs.ready.least_into.Statement.{statement}
 use Rattle.solve.proofs.ready.least_into.Tie as tie
 
@@ -27,7 +27,7 @@ returns : tie.Need-returns
 returns c =
     let told = c.before in
     let solve = told.before.before.before.before in
-    least-stops _ _ _ told.enum-told2.given.1 solve.least-of.ensures c.small-pivot.ensures
+    least_stops _ _ _ told.enum-told2.given.1 solve.least-of.ensures c.small-pivot.ensures
 
 add-last : tie.Need-overflow-add-last
 add-last c = search rules
@@ -61,7 +61,7 @@ returns-2 c =
     let args = solve.before.before.before.before.before.before.args in
     let cells = solve.before.before.before.before.before.before.requires.0.cells in
     let wide : length args.a.now + args.n - length args.a.now ≡ args.n = omega arith in
-    least-solves _ _ _ done.enum_told.given.1 solve.least-of.ensures (copied.copy.ensures ∙ rw (wide, cells))
+    least_solves _ _ _ done.enum_told.given.1 solve.least-of.ensures (copied.copy.ensures ∙ rw (wide, cells))
 
 pub least-into-spec : {M : Type 1} → statement M
 least-into-spec =

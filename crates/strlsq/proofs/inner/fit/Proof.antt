@@ -2,7 +2,7 @@
 use mathlib.Core.Path.{sym, ◌∙◌}
 use borrow.Author.Rules.{rules}
 use Rattle.rule.specs.Sizes.{Ready, ready}
-use Rattle.strlsq.proofs.Report.{fit_refused, fit-accepted}
+use Rattle.strlsq.proofs.Report.{fit_refused, fit_accepted}
 use Rattle.strlsq.proofs.inner.fit.Statement.{statement}
 use Rattle.strlsq.proofs.inner.fit.Tie as tie
 
@@ -13,17 +13,17 @@ enum_told : tie.Need-enum-told
 enum_told c = search rules
 
 -- where nothing is refused, the fit is ready
-was-ready : (told : tie.After-enum-told) → let a = told.before.before.before.before.before.before.before.args in
+was_ready : (told : tie.After-enum-told) → let a = told.before.before.before.before.before.before.before.args in
     Ready a.task a.theta.now a.target.now a.coeffs.now a.workspace.now
-was-ready told = ready (sym told.before.before.fit_sizes.ensures ∙ told.enum_told.given.1)
+was_ready told = ready (sym told.before.before.fit_sizes.ensures ∙ told.enum_told.given.1)
 
 fit-ready-requires : tie.Need-fit-ready-requires
-fit-ready-requires c κs = was-ready c.before.before
+fit-ready-requires c κs = was_ready c.before.before
 
 report-requires : tie.Need-report-requires
 report-requires c κs =
     let at_ready = c.before.before.before.before.before in
-    let given = was-ready at_ready.before.before.before in
+    let given = was_ready at_ready.before.before.before in
     (given.sized, at_ready.fit-ready.auto.1.1.1.1.0 ∙ given.coeffs_long, at_ready.fit-ready.ensures.0)
 
 enum-known-w : tie.Need-enum-known-w
@@ -42,7 +42,7 @@ returns c =
     let at-sizes = told.before.before in
     let a = at-sizes.before.before.before.before.before.args in
     let made = at_ready.fit-ready in
-    fit-accepted a.task a.theta.now a.target.now at-sizes.fit_sizes.result a.coeffs.now _ a.workspace.now _ c.report.result
+    fit_accepted a.task a.theta.now a.target.now at-sizes.fit_sizes.result a.coeffs.now _ a.workspace.now _ c.report.result
     at-sizes.fit_sizes.ensures told.enum_told.given.1 c.report.ensures made.ensures.0.coeffs made.ensures.2
 
 returns-2 : tie.Need-returns-2

@@ -7,7 +7,7 @@ use lib.ListN.{length, take, drop}
 use lib.Seq.{length-take-le}
 use lib.Ieee.{Float}
 use Rattle.steps.specs.Num.{at}
-use Rattle.steps.specs.Loops.{loop, loop-more}
+use Rattle.steps.specs.Loops.{loop, loop_more}
 use Rattle.steps.specs.Glue.{seen, glued_none}
 use Rattle.transpose.specs.Transpose.{qt_column, qt}
 use Rattle.transpose.proofs.inner.apply_qt.Statement.{statement}
@@ -56,7 +56,7 @@ loop-again c =
       omega (arith, test),
       turned.auto.0 ∙ now-at.invariant.1,
       seen a _ now-at.s k len now-at.invariant.2 (λ x y. qt_column args.m args.n x (at args.betas.now now-at.j) now-at.j y) turned.ensures
-          ∙ ap (λ (z : List Float). a ++ z) (loop-more 0 now-at.j (λ j. qt_column args.m args.n a (at args.betas.now j) j) b (omega arith) refl refl),
+          ∙ ap (λ (z : List Float). a ++ z) (loop_more 0 now-at.j (λ j. qt_column args.m args.n a (at args.betas.now j) j) b (omega arith) refl refl),
     )
 
 same_length : tie.Need-same-length invariant-loop decreases-loop

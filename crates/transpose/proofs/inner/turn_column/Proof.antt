@@ -8,7 +8,7 @@ use lib.Seq.{length-take-le}
 use lib.Arith.{digits_lt}
 use Rattle.steps.specs.Num.{less, times, one, at, cell}
 use Rattle.steps.specs.Loops.{loop}
-use Rattle.steps.specs.Glue.{at_back, take-front, glued_none, glued_more}
+use Rattle.steps.specs.Glue.{at_back, take_front, glued_none, glued_more}
 use Rattle.transpose.specs.Led.{led}
 use Rattle.transpose.specs.Transpose.{qt_column}
 use Rattle.transpose.proofs.Front.{led_take}
@@ -84,7 +84,7 @@ loop-again c =
       omega (arith, test),
       simp length-set turn.invariant.2,
       glued_more a (drop k args.s.now) turn.s k args.j turn.i (λ i x. less (at x i) (times t (led one (cell args.n a) args.j i))) _ len turn.invariant.0 is
-          (rw (at_back a _ turn.s k len is turn.i, c.before.led-at.ensures, led_take one args.n k args.j turn.i turn.s (inside test), take-front a _ turn.s k len is)),
+          (rw (at_back a _ turn.s k len is turn.i, c.before.led-at.ensures, led_take one args.n k args.j turn.i turn.s (inside test), take_front a _ turn.s k len is)),
     )
 
 same_length : tie.Need-same-length invariant-loop decreases-loop

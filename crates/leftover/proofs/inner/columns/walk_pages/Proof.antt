@@ -8,7 +8,7 @@ use Rattle.places.specs.declared.Layout.TheVariants.{ByColumns}
 use Rattle.places.specs.Stored.{stored}
 use Rattle.places.specs.Columns.{listed}
 use Rattle.leftover.specs.Error.{squares, listed_coeffs}
-use Rattle.leftover.proofs.Walks.{rows_none, rows_end, page-more}
+use Rattle.leftover.proofs.Walks.{rows_none, rows_end, page_more}
 use Rattle.leftover.proofs.inner.columns.walk_pages.Statement.{statement}
 use Rattle.leftover.proofs.inner.columns.walk_pages.Tie as tie
 
@@ -66,7 +66,7 @@ loop-again c =
     let i = a.n-rows - turn.left in (
       omega (arith, turn.invariant.0),
       omega (arith, summed.row-sums.auto, turn.invariant.1),
-      rows_end _ _ _ _ (i + h) _ (page-more _ _ i h a.k (at a.target.now) _ summed.row-sums.ensures turn.invariant.2 c.add-squares.ensures)
+      rows_end _ _ _ _ (i + h) _ (page_more _ _ i h a.k (at a.target.now) _ summed.row-sums.ensures turn.invariant.2 c.add-squares.ensures)
           (omega (arith, turn.invariant.0, next.page-rows.ensures.1)),
     )
 

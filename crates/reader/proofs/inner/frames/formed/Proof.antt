@@ -8,7 +8,7 @@ use borrow.Author.Tests.{ne_eqb, not-true, not-false}
 use lib.ListN.{length}
 use Rattle.hexdigits.specs.All.{all, all_none, all_more}
 use Rattle.reader.specs.Frames.{frame_at, frame_formed, frames_formed}
-use Rattle.reader.proofs.FrameLaws.{frame_within, frames-not, frames-all}
+use Rattle.reader.proofs.FrameLaws.{frame_within, frames_not, frames_all}
 use Rattle.reader.proofs.inner.frames.formed.Statement.{statement}
 use Rattle.reader.proofs.inner.frames.formed.Tie as tie
 
@@ -39,7 +39,7 @@ frame-formed-requires c κs =
 returns-2 : tie.Need-returns-2 invariant-loop decreases-loop
 returns-2 c =
     let at-loop = c.before.before.before in
-    frames-not _ _ _ _ at-loop.loop.invariant.1 (omega arith) (sym c.before.frame_formed.ensures ∙ not-true _ c.if2.true)
+    frames_not _ _ _ _ at-loop.loop.invariant.1 (omega arith) (sym c.before.frame_formed.ensures ∙ not-true _ c.if2.true)
 
 add-k : tie.Need-overflow-add-k invariant-loop decreases-loop
 add-k c = omega arith
@@ -55,7 +55,7 @@ loop-again c =
 returns-3 : tie.Need-returns-3 invariant-loop decreases-loop
 returns-3 c =
     let inv = c.before.loop.invariant in
-    frames-all _ _ _ _ inv.1 inv.2 (omega arith) (omega arith)
+    frames_all _ _ _ _ inv.1 inv.2 (omega arith) (omega arith)
 
 pub formed-spec : {M : Type 1} → statement M
 formed-spec = tie.close (tie.spec invariant-loop decreases-loop frame-at-requires returns loop-holds frame-formed-requires returns-2 add-k loop-less loop-again returns-3)

@@ -5,7 +5,7 @@ use native.Mathlib.Omega.{arith}
 use lib.ListN.{length, length-set}
 use Rattle.steps.specs.Table.{filled, filled_none, table}
 use Rattle.reader.specs.Numbers.{frame_number}
-use Rattle.reader.proofs.NumberLaws.{some_each, place_in, part-few, part-has, fill_more, fill_end}
+use Rattle.reader.proofs.NumberLaws.{some_each, place_in, part_few, part_has, fill_more, fill_end}
 use Rattle.reader.proofs.inner.numbers.read_part.Statement.{statement}
 use Rattle.reader.proofs.inner.numbers.read_part.Tie as tie
 
@@ -33,7 +33,7 @@ add-number : tie.Need-overflow-add-number invariant-loop decreases-loop
 add-number c =
     let start = c.before.before.before.before in
     let place = place_in _ _ _ (in-part c) in
-    omega (arith, (part-few start.requires.0 _ _ place.0 place.1).frames)
+    omega (arith, (part_few start.requires.0 _ _ place.0 place.1).frames)
 
 rem-number : tie.Need-nonzero-rem-number invariant-loop decreases-loop
 rem-number c = some_each _ _ _ (in-part c)
@@ -42,13 +42,13 @@ add-number-2 : tie.Need-overflow-add-number-2 invariant-loop decreases-loop
 add-number-2 c =
     let start = c.before.before.before.before in
     let place = place_in _ _ _ (in-part c) in
-    omega (arith, (part-has start.requires.0 _ _ place.0 place.1).within)
+    omega (arith, (part_has start.requires.0 _ _ place.0 place.1).within)
 
 number-requires : tie.Need-number-requires invariant-loop decreases-loop
 number-requires c κs =
     let start = c.before.before.before.before in
     let place = place_in _ _ _ (in-part c) in
-    (part-few start.requires.0 _ _ place.0 place.1, part-has start.requires.0 _ _ place.0 place.1)
+    (part_few start.requires.0 _ _ place.0 place.1, part_has start.requires.0 _ _ place.0 place.1)
 
 mul-out : tie.Need-overflow-mul-out invariant-loop decreases-loop
 mul-out c = omega arith

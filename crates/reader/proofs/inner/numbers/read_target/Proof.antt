@@ -2,7 +2,7 @@
 use native.Mathlib.Omega.{arith}
 use borrow.Author.Rules.{rules}
 use Rattle.reader.proofs.NumberLaws.{few_sizes}
-use Rattle.reader.proofs.Layouts.{target-by-rows, by-rows-target, target-by-columns, by-columns-target}
+use Rattle.reader.proofs.Layouts.{target_by_rows, by_rows_target, target_by_columns, by_columns_target}
 use Rattle.reader.proofs.inner.numbers.read_target.Statement.{statement}
 use Rattle.reader.proofs.inner.numbers.read_target.Tie as tie
 
@@ -17,7 +17,7 @@ read-part-requires c κs =
     let told = c.before in
     let wide = told.before.before in
     let start = wide.before.before.before in
-    (target-by-rows _ _ _ _ _ wide.frame_digits.ensures told.enum_told.given.1 start.requires.0, omega arith)
+    (target_by_rows _ _ _ _ _ wide.frame_digits.ensures told.enum_told.given.1 start.requires.0, omega arith)
 
 enum-told-2 : tie.Need-enum-told-2
 enum-told-2 c = search rules
@@ -27,7 +27,7 @@ read-part-requires-2 c κs =
     let told = c.before in
     let wide = told.before.before in
     let start = wide.before.before.before in
-    (target-by-columns _ _ _ _ _ wide.frame_digits.ensures told.enum-told2.given.1 start.requires.0, omega arith)
+    (target_by_columns _ _ _ _ _ wide.frame_digits.ensures told.enum-told2.given.1 start.requires.0, omega arith)
 
 same_length : tie.Need-same-length
 same_length c = search rules
@@ -36,7 +36,7 @@ returns : tie.Need-returns
 returns c =
     let read = c.before.before in
     let told = read.before.before in
-    by-rows-target _ _ _ _ _ told.before.before.frame_digits.ensures told.enum_told.given.1 _ read.read-part.ensures
+    by_rows_target _ _ _ _ _ told.before.before.frame_digits.ensures told.enum_told.given.1 _ read.read-part.ensures
 
 same-length-2 : tie.Need-same-length-2
 same-length-2 c = search rules
@@ -45,7 +45,7 @@ returns-2 : tie.Need-returns-2
 returns-2 c =
     let read = c.before.before in
     let told = read.before.before in
-    by-columns-target _ _ _ _ _ told.before.before.frame_digits.ensures told.enum-told2.given.1 _ read.read-part2.ensures
+    by_columns_target _ _ _ _ _ told.before.before.frame_digits.ensures told.enum-told2.given.1 _ read.read-part2.ensures
 
 pub read-target-spec : {M : Type 1} → statement M
 read-target-spec =

@@ -3,7 +3,7 @@ use native.Mathlib.Nat.{mul_comm}
 use native.Mathlib.Omega.{arith}
 use borrow.Author.Rules.{rules}
 use Rattle.reader.proofs.NumberLaws.{few_sizes}
-use Rattle.reader.proofs.Layouts.{theta-by-rows, by-rows-theta, theta-by-columns, by-columns-theta}
+use Rattle.reader.proofs.Layouts.{theta_by_rows, by_rows_theta, theta_by_columns, by_columns_theta}
 use Rattle.reader.proofs.inner.numbers.read_theta.Statement.{statement}
 use Rattle.reader.proofs.inner.numbers.read_theta.Tie as tie
 
@@ -18,7 +18,7 @@ read-part-requires c κs =
     let told = c.before in
     let wide = told.before.before in
     let start = wide.before.before.before in
-    (theta-by-rows _ _ _ _ _ wide.frame_digits.ensures told.enum_told.given.1 start.requires.0, start.requires.1)
+    (theta_by_rows _ _ _ _ _ wide.frame_digits.ensures told.enum_told.given.1 start.requires.0, start.requires.1)
 
 enum-told-2 : tie.Need-enum-told-2
 enum-told-2 c = search rules
@@ -28,7 +28,7 @@ read-part-requires-2 c κs =
     let told = c.before in
     let wide = told.before.before in
     let start = wide.before.before.before in
-    (theta-by-columns _ _ _ _ _ wide.frame_digits.ensures told.enum-told2.given.1 start.requires.0, omega (arith, mul_comm start.args.cols start.args.rows))
+    (theta_by_columns _ _ _ _ _ wide.frame_digits.ensures told.enum-told2.given.1 start.requires.0, omega (arith, mul_comm start.args.cols start.args.rows))
 
 same_length : tie.Need-same-length
 same_length c = search rules
@@ -37,7 +37,7 @@ returns : tie.Need-returns
 returns c =
     let read = c.before.before in
     let told = read.before.before in
-    by-rows-theta _ _ _ _ _ told.before.before.frame_digits.ensures told.enum_told.given.1 _ read.read-part.ensures
+    by_rows_theta _ _ _ _ _ told.before.before.frame_digits.ensures told.enum_told.given.1 _ read.read-part.ensures
 
 same-length-2 : tie.Need-same-length-2
 same-length-2 c = search rules
@@ -46,7 +46,7 @@ returns-2 : tie.Need-returns-2
 returns-2 c =
     let read = c.before.before in
     let told = read.before.before in
-    by-columns-theta _ _ _ _ _ told.before.before.frame_digits.ensures told.enum-told2.given.1 _ read.read-part2.ensures
+    by_columns_theta _ _ _ _ _ told.before.before.frame_digits.ensures told.enum-told2.given.1 _ read.read-part2.ensures
 
 pub read-theta-spec : {M : Type 1} → statement M
 read-theta-spec =

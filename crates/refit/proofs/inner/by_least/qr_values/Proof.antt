@@ -5,8 +5,8 @@ use native.Mathlib.Omega.{arith}
 use borrow.Author.Rules.{rules}
 use lib.ListN.{length}
 use Rattle.steps.specs.Space.{with_part}
-use Rattle.refit.proofs.Large.{narrow, columns-in, cells}
-use Rattle.refit.proofs.Joined.{length_head, room-behind, length_both, least_is}
+use Rattle.refit.proofs.Large.{narrow, columns_in, cells}
+use Rattle.refit.proofs.Joined.{length_head, room_behind, length_both, least_is}
 use Rattle.refit.proofs.inner.by_least.qr_values.Statement.{statement}
 use Rattle.refit.proofs.inner.by_least.qr_values.Tie as tie
 
@@ -34,7 +34,7 @@ augment-requires c κs =
     let s = start.requires.0 in
     let e = cells start.args.task start.args.n-active in
     let fits : e ≤ length start.args.ws.now = omega (arith, start.requires.1) in
-    (columns-in s, rw (← s.count) (length_head e start.args.ws.now fits))
+    (columns_in s, rw (← s.count) (length_head e start.args.ws.now fits))
 
 mul-pad : tie.Need-overflow-mul-pad
 mul-pad c = search rules
@@ -54,7 +54,7 @@ pad-requires c κs =
     let matrix = c.before.before.before in
     let start = matrix.before.before.before.before.before.before.before in
     let s = start.requires.0 in
-    (omega (arith, s.sized.target_long, s.sized.limited.few_rows), narrow s, room-behind s start.args.ws.now start.requires.1 matrix.augment.ensures)
+    (omega (arith, s.sized.target_long, s.sized.limited.few_rows), narrow s, room_behind s start.args.ws.now start.requires.1 matrix.augment.ensures)
 
 least-packed-requires : tie.Need-least-packed-requires
 unfolding with_part

@@ -6,7 +6,7 @@ use borrow.Author.Rules.{rules}
 use lib.ListN.{length}
 use Rattle.steps.specs.Space.{with_part}
 use Rattle.refit.proofs.Large.{narrow, area, least_fits, both}
-use Rattle.refit.proofs.Joined.{length_head, space-kept, read}
+use Rattle.refit.proofs.Joined.{length_head, space_kept, read}
 use Rattle.refit.proofs.Ends.{read_out}
 use Rattle.refit.proofs.inner.by_least.solve_qr.Statement.{statement}
 use Rattle.refit.proofs.inner.by_least.solve_qr.Tie as tie
@@ -62,7 +62,7 @@ part-copy-end c =
     let solve = c.before.before.before in
     let start = solve.before.before.before.before.before.before.before in
     let left = solve.qr-values.new.1.1.1.1.1.0 in
-    let kept = space-kept start.args.task (k start) start.args.ws.now left (fits start) solve.qr-values.auto.1.1.1.1.1.0 in
+    let kept = space_kept start.args.task (k start) start.args.ws.now left (fits start) solve.qr-values.auto.1.1.1.1.1.0 in
     omega (arith, kept, fits start)
 
 copy-requires : tie.Need-copy-requires

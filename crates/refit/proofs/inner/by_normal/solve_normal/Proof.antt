@@ -12,7 +12,7 @@ use Rattle.sums.specs.Kept.{kept_size}
 use Rattle.rule.specs.Fits.{by_sums}
 use Rattle.rule.specs.Kept.{from_kept}
 use Rattle.refit.proofs.Joined.{length_head}
-use Rattle.refit.proofs.Kept.{from-lent, head-left}
+use Rattle.refit.proofs.Kept.{from_lent, head_left}
 use Rattle.refit.proofs.inner.by_normal.solve_normal.Statement.{statement}
 use Rattle.refit.proofs.inner.by_normal.solve_normal.Tie as tie
 
@@ -71,8 +71,8 @@ returns c =
     let ws = a.ws.now in
     let made = rw told.few.ensures at solve.solve-block.ensures in
     let kept = rw told.few.ensures at solve.solve-block.auto.0 in (
-      ap solution made.values ∙ from-lent a.task.cols (room start) ws (omega arith) start.requires.3 (damps a.damping) a.support.0 start.requires.1,
-      rw told.few.ensures (head-left a.task.cols (room start) ws (omega arith) start.requires.3 solve.solve-block.new.0 kept made.kept),
+      ap solution made.values ∙ from_lent a.task.cols (room start) ws (omega arith) start.requires.3 (damps a.damping) a.support.0 start.requires.1,
+      rw told.few.ensures (head_left a.task.cols (room start) ws (omega arith) start.requires.3 solve.solve-block.new.0 kept made.kept),
     )
 
 pub solve-normal-spec : {M : Type 1} → statement M

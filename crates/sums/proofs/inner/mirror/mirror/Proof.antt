@@ -4,7 +4,7 @@ use Prim.Native.Nat.{◌-◌, ◌≤◌}
 use native.Mathlib.Omega.{arith}
 use Rattle.steps.specs.Rows.{Rows, rows_none}
 use Rattle.sums.specs.Pages.{upper}
-use Rattle.sums.proofs.Mirrored.{mirror-more}
+use Rattle.sums.proofs.Mirrored.{mirror_more}
 use Rattle.sums.proofs.inner.mirror.mirror.Statement.{statement}
 use Rattle.sums.proofs.inner.mirror.mirror.Tie as tie
 
@@ -33,7 +33,7 @@ loop-again c =
     let row = c.before.before in
     let test = row.before.before in
     let turn = test.before.loop in
-    (omega arith, mirror-more _ _ turn.p _ _ test.loop-test.true turn.invariant.1 row.mirror-row.ensures)
+    (omega arith, mirror_more _ _ turn.p _ _ test.loop-test.true turn.invariant.1 row.mirror-row.ensures)
 
 same_length : tie.Need-same-length invariant-loop decreases-loop
 same_length c = c.before.loop.invariant.1.long

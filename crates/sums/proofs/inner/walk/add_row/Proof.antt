@@ -44,7 +44,7 @@ loop-again c =
     let turn = at-loop.loop in
     let a = start.args in (
       omega arith,
-      rw c.at-term.ensures
+      rw c.at_term.ensures
           (wrote_turn (λ q. q) (λ q s. plus s (times a.x (cell a.n-cols a.theta.now a.i q)))
           0 turn.q a.sums.now turn.sums (omega arith) (omega arith) (λ q h h' e. omega arith) turn.invariant.1),
     )

@@ -6,7 +6,7 @@ use native.Mathlib.Omega.{arith}
 use lib.ListN.{length}
 use Rattle.sums.specs.Inner.{Filled}
 use Rattle.sums.specs.Pages.{with_targets}
-use Rattle.sums.proofs.Walks.{targets-none, targets-more}
+use Rattle.sums.proofs.Walks.{targets_none, targets_more}
 use Rattle.sums.proofs.inner.walk.take_targets.Statement.{statement}
 use Rattle.sums.proofs.inner.walk.take_targets.Tie as tie
 
@@ -17,7 +17,7 @@ abbrev decreases-loop : tie.decreases-loop
 decreases-loop page n-cols h target i sums₀ k₀ sums k = h - k
 
 loop-holds : tie.Need-loop-init invariant-loop decreases-loop
-loop-holds c = (omega arith, refl, targets-none _ _ _ _ _)
+loop-holds c = (omega arith, refl, targets_none _ _ _ _ _)
 
 add-add-row : tie.Need-overflow-add-add-row invariant-loop decreases-loop
 add-add-row c = omega arith
@@ -50,7 +50,7 @@ loop-again c =
     let row = added.add_row in (
       omega (arith, test.loop-test.true),
       row.ensures.long ∙ turn.invariant.1,
-      targets-more _ _ _ _ _ turn.k _ _ _ row.ensures refl turn.invariant.2,
+      targets_more _ _ _ _ _ turn.k _ _ _ row.ensures refl turn.invariant.2,
     )
 
 same_length : tie.Need-same-length invariant-loop decreases-loop

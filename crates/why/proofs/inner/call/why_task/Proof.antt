@@ -2,7 +2,7 @@
 use mathlib.Core.Path.{sym, ◌∙◌}
 use borrow.Author.Rules.{rules}
 use Rattle.why.specs.Sizes.{why_ready}
-use Rattle.why.proofs.Answer.{cause-found, why-refused, why-accepted}
+use Rattle.why.proofs.Answer.{cause_found, why_refused, why_accepted}
 use Rattle.why.proofs.inner.call.why_task.Statement.{statement}
 use Rattle.why.proofs.inner.call.why_task.Tie as tie
 
@@ -36,15 +36,15 @@ returns c =
     let at-sizes = told.before.before in
     let a = at-sizes.before.before.before.before.before.before.args in
     let made = at_ready.fit-ready in
-    why-accepted _ a.theta.now a.target.now a.term-idx.0 at-sizes.why_sizes.result a.coeffs.now _ a.workspace.now _ c.cause_of.result
+    why_accepted _ a.theta.now a.target.now a.term-idx.0 at-sizes.why_sizes.result a.coeffs.now _ a.workspace.now _ c.cause_of.result
     at-sizes.why_sizes.ensures told.enum_told.given.1
-    (c.cause_of.ensures ∙ cause-found _ a.theta.now a.target.now a.term-idx.0 made.ensures.0 made.ensures.1) made.ensures.0.coeffs made.ensures.2
+    (c.cause_of.ensures ∙ cause_found _ a.theta.now a.target.now a.term-idx.0 made.ensures.0 made.ensures.1) made.ensures.0.coeffs made.ensures.2
 
 returns-2 : tie.Need-returns-2
 returns-2 c =
     let at-sizes = c.before.before.before in
     let a = at-sizes.before.before.before.before.before.before.args in
-    why-refused _ a.theta.now a.target.now a.term-idx.0 at-sizes.why_sizes.result _ a.coeffs.now a.workspace.now at-sizes.why_sizes.ensures c.before.w.given.1
+    why_refused _ a.theta.now a.target.now a.term-idx.0 at-sizes.why_sizes.result _ a.coeffs.now a.workspace.now at-sizes.why_sizes.ensures c.before.w.given.1
 
 pub why-task-spec : {M : Type 1} → statement M
 why-task-spec =
