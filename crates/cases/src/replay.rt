@@ -9,7 +9,7 @@ use hexdigits::inner::{all_hex, number_at, size};
 use libc::STDOUT_FILENO;
 
 // What stands at a place of the list: a name up to its end, an input and an answer up to theirs, or no entry.
-#[derive(Drop)]
+#[derive(Clone, Copy)]
 enum Entry {
     Name(usize),
     Exchange(usize, usize),
@@ -17,7 +17,7 @@ enum Entry {
 }
 
 // How many exchanges of a group were answered alike, of how many, and where the group ends.
-#[derive(Drop)]
+#[derive(Clone, Copy)]
 struct Tally {
     alike: usize,
     all: usize,

@@ -8,7 +8,7 @@ ghost use Rattle.float64.specs.Parts.{WholePart, Halved, Widened, Rooted};
 use std::num::wrapping_sub_u64;
 
 // Digits and a scale, sig * 2 ^ exp.
-#[derive(Drop)]
+#[derive(Clone, Copy)]
 struct Scaled(u64, u64);
 
 // sig * 2 ^ 52 written with 53 digits: digits * 2 ^ exp.

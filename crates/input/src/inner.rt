@@ -7,14 +7,14 @@ ghost use Rattle.input.specs.Read.{Came, Behind, after_read};
 use libc::STDIN_FILENO;
 
 // What reading gives: so many bytes, or a read that failed.
-#[derive(Drop)]
+#[derive(Clone, Copy)]
 pub enum Input {
     Whole(usize),
     Failed,
 }
 
 // What one read tells: so many bytes have come and there may be more, the input has ended, or the read failed.
-#[derive(Drop)]
+#[derive(Clone, Copy)]
 enum Next {
     More(usize),
     Ended,

@@ -8,7 +8,7 @@ use refusal::Solved;
 use slices::inner::{cell, put, row_sum, swap};
 
 // The pivot's magnitude and its row.
-#[derive(Drop)]
+#[derive(Clone, Copy)]
 struct Pivot {
     size: f64,
     row: usize,

@@ -5,7 +5,7 @@ ghost use Rattle.pairs.specs.Tiles.{FourOf, TileOf, Took, TileTook, PutFour, Put
 
 use slices::inner::{cell, put};
 
-#[derive(Drop)]
+#[derive(Clone, Copy)]
 pub struct Four {
     pub a: f64,
     pub b: f64,
@@ -13,7 +13,7 @@ pub struct Four {
     pub d: f64,
 }
 
-#[derive(Drop)]
+#[derive(Clone, Copy)]
 pub struct Tile {
     pub a: Four,
     pub b: Four,

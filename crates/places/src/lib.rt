@@ -2,7 +2,7 @@
 pub mod inner;
 
 // How theta is stored: a row after another, or a column after another.
-#[derive(Drop)]
+#[derive(Clone, Copy)]
 pub enum Layout {
     ByRows,
     ByColumns,

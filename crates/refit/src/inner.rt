@@ -57,7 +57,7 @@ fn solve_columns(
 }
 
 // What a solve over a support came to: its values at their terms, or the term of theta at which it refused.
-#[derive(Drop)]
+#[derive(Clone, Copy)]
 pub enum Spread {
     Done,
     Refused(Term),

@@ -4,7 +4,7 @@ pub mod inner;
 ghost use Rattle.std.specs.Prelude.{◌≡◌};
 ghost use Rattle.refusal.specs.Answers.{answer_column, answer_number, column_of, number};
 
-#[derive(Drop)]
+#[derive(Clone, Copy)]
 pub enum Refusal {
     ManyColumns,
     ManyRows,
@@ -23,21 +23,21 @@ pub enum Refusal {
 }
 
 // What a public call answers that gives no value of its own.
-#[derive(Drop)]
+#[derive(Clone, Copy)]
 pub enum Answer {
     Done,
     Refused(Refusal),
 }
 
 // What a solver answers inside: done, or the column at which it refused.
-#[derive(Drop)]
+#[derive(Clone, Copy)]
 pub enum Solved {
     Done,
     Refused(usize),
 }
 
 // A column of a matrix, or none.
-#[derive(Drop)]
+#[derive(Clone, Copy)]
 pub enum Column {
     None,
     At(usize),

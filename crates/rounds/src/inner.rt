@@ -17,7 +17,7 @@ use slices::inner::clear;
 use support::{Support, Term};
 
 // What a round came to: a refit over this support, or the fit's end, by a refused refit at this term.
-#[derive(Drop)]
+#[derive(Clone, Copy)]
 pub enum Turn {
     Again(Support),
     Empty,
@@ -26,7 +26,7 @@ pub enum Turn {
 }
 
 // How the rounds of a fit ended, and which of their looks dropped the term that was watched.
-#[derive(Drop)]
+#[derive(Clone, Copy)]
 pub struct Ran {
     pub stop: Stop,
     pub refits: usize,

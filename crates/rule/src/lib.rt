@@ -9,7 +9,7 @@ use refusal::{Refusal, number};
 use support::{Support, Term};
 
 // The threshold, lambda and max_iter travel together through every layer.
-#[derive(Drop)]
+#[derive(Clone, Copy)]
 pub struct Setup {
     pub threshold: f64,
     pub lambda: f64,
@@ -17,7 +17,7 @@ pub struct Setup {
 }
 
 // How a solve is done: by the normal equations, by least squares, or by the normal equations damped in proportion.
-#[derive(Drop)]
+#[derive(Clone, Copy)]
 pub enum Solver {
     Normal,
     Qr,
@@ -25,7 +25,7 @@ pub enum Solver {
 }
 
 // What a fit is asked for: how it solves, how theta is stored, theta's sizes, and the setup. A header says just this.
-#[derive(Drop)]
+#[derive(Clone, Copy)]
 pub struct Task {
     pub solver: Solver,
     pub layout: Layout,
@@ -35,7 +35,7 @@ pub struct Task {
 }
 
 // Why a fit ended; a solve that refused names the term of theta at which it did.
-#[derive(Drop)]
+#[derive(Clone, Copy)]
 pub enum Stop {
     NoData,
     FirstRefused(Term),
@@ -46,14 +46,14 @@ pub enum Stop {
 }
 
 // Where a look first did not find a term: nowhere, or before the refit of this number, at this coefficient.
-#[derive(Drop)]
+#[derive(Clone, Copy)]
 pub enum Drop {
     Never,
     Before(usize, f64),
 }
 
 // What stands beside the coefficients: bit j of the kept word is one exactly if the final |c(j)| is at least the threshold, and the squared error is what its terms leave.
-#[derive(Drop)]
+#[derive(Clone, Copy)]
 pub struct Report {
     pub stop: Stop,
     pub refits: usize,
@@ -62,14 +62,14 @@ pub struct Report {
 }
 
 // What a fit answers.
-#[derive(Drop)]
+#[derive(Clone, Copy)]
 pub enum Fitted {
     Fit(Report),
     Refused(Refusal),
 }
 
 // What a header's code stands for.
-#[derive(Drop)]
+#[derive(Clone, Copy)]
 pub enum Coded {
     By(Layout, Solver),
     Unknown,

@@ -16,7 +16,7 @@ use slices::inner::clear;
 use support::Term;
 
 // How a fit ended, and what it saw of the term that was watched: the look that dropped it, and its last coefficient before the last pass.
-#[derive(Drop)]
+#[derive(Clone, Copy)]
 pub struct Watched {
     pub stop: Stop,
     pub refits: usize,

@@ -27,7 +27,7 @@ pub fn jtj_sums(theta: &[f64], n_rows: usize, n_cols: usize, out: &mut [f64])
 }
 
 // How the diagonal of a finished matrix is damped: by lambda as it stands, or by lambda in proportion to the number.
-#[derive(Drop)]
+#[derive(Clone, Copy)]
 pub enum Damping {
     Ridge(f64),
     Proportion(f64),

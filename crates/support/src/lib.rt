@@ -4,15 +4,15 @@ ghost use Rattle.std.specs.Int.Count.{ones};
 ghost use Rattle.support.specs.Word.{has, place as place_of, alone as Alone-of, full as full-of, with_term, without_term, term_at};
 
 // A term number: it counts columns of theta.
-#[derive(Drop)]
+#[derive(Clone, Copy)]
 pub struct Term(pub usize);
 
 // A reduced place: it counts columns of the refit.
-#[derive(Drop)]
+#[derive(Clone, Copy)]
 pub struct Col(pub usize);
 
 // Bit j of the word is one exactly if the term j is in the support.
-#[derive(Drop)]
+#[derive(Clone, Copy)]
 pub struct Support(pub u64);
 
 // A cast of a parameter asks nothing.

@@ -13,7 +13,7 @@ use rule::{Setup, Solver, Task};
 use support::Term;
 
 // The causes, in code order 00 to 06.
-#[derive(Drop)]
+#[derive(Clone, Copy)]
 pub enum Cause {
     NoData,
     FirstRefused,
@@ -28,7 +28,7 @@ pub enum Cause {
 }
 
 // What the call answers.
-#[derive(Drop)]
+#[derive(Clone, Copy)]
 pub enum Caused {
     Because(Cause),
     Refused(Refusal),

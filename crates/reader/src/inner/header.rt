@@ -13,7 +13,7 @@ const DIGITS: usize = 44;
 pub const FRAME: usize = DIGITS + 1;
 
 // What a header asks for, or a malformed one.
-#[derive(Drop)]
+#[derive(Clone, Copy)]
 pub enum Head {
     Good(Task),
     Wrong,

@@ -6,7 +6,7 @@ use rule::Solver;
 use sums::inner::Damping;
 
 // The kept sums, with a damping, by the normal equations; or the rows, by least squares.
-#[derive(Drop)]
+#[derive(Clone, Copy)]
 pub enum Method {
     Sums(Damping),
     Rows,
