@@ -1,0 +1,12 @@
+-- `list::read` meets its contract. The loop's invariant: what came has room, a room has at least a byte and at most 64, and the whole keeps its length. Assumes nothing.
+-- the bytes that the pattern binds have room
+use Prim.Native.Nat.{◌≤◌, ◌<◌, ◌-◌}
+use mathlib.Core.Path.{◌≡◌}
+use lib.ListN.{length}
+use Rattle.cases.proofs.list.read.Given as goal
+
+abbrev pub invariant-loop-n : goal.invariant-loop-n
+invariant-loop-n l = (l.n ≤ length l.room) × (length l.room ≡ length l.initial.room) × (0 < l.size) × (l.size ≤ 64)
+
+abbrev pub decreases-loop-n : goal.decreases-loop-n
+decreases-loop-n l = length l.room - l.n

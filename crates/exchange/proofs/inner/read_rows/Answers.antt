@@ -1,0 +1,19 @@
+-- `read_rows` reads theta, and then the target.
+use native.Mathlib.Omega.{arith}
+use Rattle.exchange.specs.Exchange.{theta_asked, target_asked}
+use Rattle.exchange.specs.Reading.{theta_room, all_formed}
+use Rattle.exchange.proofs.inner.read_rows.Goals as goal
+
+pub read_theta-requires : goal.read_theta-requires
+read_theta-requires c =
+    let ok = c.requires.0 in
+    (all_formed ok, omega (arith, theta_room ok.limited))
+
+pub read_target-requires : goal.read_target-requires
+read_target-requires c =
+    (all_formed c.requires.0, omega arith)
+
+pub returns : goal.returns
+unfolding theta_asked target_asked
+returns c =
+    record { theta_read = c.read_theta.ensures; target_read = c.read_target.ensures }

@@ -1,0 +1,22 @@
+-- `float64::abs` meets its contract. Assumes nothing.
+use Rattle.std.proofs.Common.{T, sym, subst}
+use lib.Ieee.{binary64, fits}
+use Rattle.float64.proofs.Tests.{is_nan_lem, no_nan}
+use Rattle.float64.proofs.Magnitude.{abs_nan, back_abs, pattern_abs}
+use Rattle.float64.proofs.abs.Goals.{Start}
+use Rattle.float64.proofs.abs.Goals as goal
+
+in-binary64 : (c : Start) → T (fits binary64 c.args.x)
+in-binary64 c = subst T (sym c.well_formed.0.1) tt
+
+pub returns-then-x : goal.returns-then-x
+returns-then-x c = abs_nan _ (is_nan_lem _ c.if-x.true)
+
+pub float_to_bits-result : goal.float_to_bits-result
+float_to_bits-result c = no_nan _ c.if-x.false
+
+pub float_from_bits-result : goal.float_from_bits-result
+float_from_bits-result c = pattern_abs _ (in-binary64 (goal.at.float_from_bits-result c).Start) (no_nan _ c.if-x.false)
+
+pub returns : goal.returns
+returns c = back_abs _ (in-binary64 (goal.at.returns c).Start) (no_nan _ c.if-x.false)

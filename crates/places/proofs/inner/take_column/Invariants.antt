@@ -1,0 +1,10 @@
+-- `take_column` meets its contract. The loop's invariant: the places passed have the column's numbers.
+-- each place is met once
+use Prim.Native.Nat.{◌+◌, ◌*◌, ◌-◌, ◌≤◌}
+use Rattle.steps.specs.Num.{cell}
+use Rattle.steps.specs.Wrote.{Wrote}
+use Rattle.places.proofs.inner.take_column.Given as goal
+
+abbrev pub invariant-loop-k : goal.invariant-loop-k
+invariant-loop-k l =
+    (l.k ≤ l.h) × Wrote (λ l.k. l.k * l.width + l.first) 0 l.k (λ l.k. cell l.n_rows l.theta l.term_idx.0 (l.i + l.k)) l.initial.page l.page

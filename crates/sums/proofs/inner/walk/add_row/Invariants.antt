@@ -1,0 +1,9 @@
+-- `add_row` meets its contract. The loop's invariant: the sums of the places passed have their products added, the others are as they were.
+use Prim.Native.Nat.{◌-◌, ◌≤◌}
+use Rattle.steps.specs.Num.{plus, times, at, cell}
+use Rattle.steps.specs.Wrote.{Wrote}
+use Rattle.sums.proofs.inner.walk.add_row.Given as goal
+
+abbrev pub invariant-loop-q : goal.invariant-loop-q
+invariant-loop-q l =
+    (l.q ≤ l.n_cols) × Wrote (λ l.q. l.q) 0 l.q (λ l.q. plus (at l.initial.sums l.q) (times l.x (cell l.n_cols l.theta l.i l.q))) l.initial.sums l.sums

@@ -1,0 +1,12 @@
+-- `led_at` meets its contract: its test is that of `led`.
+use borrow.Author.Tests.{eq-eqb, ne_eqb}
+use Rattle.transpose.specs.Led.{led}
+use Rattle.transpose.proofs.inner.led_at.Goals as goal
+
+pub returns-then-i-j : goal.returns-then-i-j
+unfolding led
+returns-then-i-j c = simp (eq-eqb _ _ c.if-i-j.true)
+
+pub returns : goal.returns
+unfolding led
+returns c = simp (ne_eqb _ _ c.if-i-j.false)
