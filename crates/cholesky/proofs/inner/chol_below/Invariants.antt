@@ -8,4 +8,4 @@ use Rattle.cholesky.specs.Cholesky.{reduced}
 use Rattle.cholesky.proofs.inner.chol_below.Given as goal
 
 abbrev pub invariant-loop-i : goal.invariant-loop-i
-invariant-loop-i l = (l.j + 1 ≤ l.i) × (l.i ≤ l.n) × (length l.a ≡ l.n * l.n) × (l.a ≡ loop (l.j + 1) l.i (λ r l. set l (r * l.n + l.j) (over (reduced l.n l r l.j) l.d)) l.initial.a)
+invariant-loop-i l = (l.j + 1 ≤ l.i) × (l.i ≤ l.n) × (length l.a ≡ l.n * l.n) × (l.a ≡ loop (l.j + 1) l.i (λ r xs. set xs (r * l.n + l.j) (over (reduced l.n xs r l.j) l.d)) l.initial.a)

@@ -6,7 +6,7 @@ use Rattle.float64.proofs.root.nearest.Goals.{Start}
 use Rattle.float64.proofs.root.nearest.Goals as goal
 
 few : (c : Start) → Small (c.args.m / 2 ^ 27) (c.args.m % 2 ^ 27)
-few c = small c.args.m c.requires.1.1
+few c = small c.args.m c.requires.fact_3
 
 pub overflow_mul-a : goal.overflow_mul-a
 overflow_mul-a c = omega (arith, few (goal.at.overflow_mul-a c).Start)

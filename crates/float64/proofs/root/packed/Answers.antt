@@ -8,13 +8,13 @@ use Rattle.float64.proofs.root.packed.Goals.{Start}
 use Rattle.float64.proofs.root.packed.Goals as goal
 
 digits : (c : Start) → (2 ^ 52 ≤ c.args.sig * (1 + c.args.exp % 2)) × (c.args.sig * (1 + c.args.exp % 2) + 2 ≤ 2 ^ 54)
-digits c = wide c.args.sig (c.args.exp % 2) c.requires.0 c.requires.1.0 (omega arith)
+digits c = wide c.args.sig (c.args.exp % 2) c.requires.fact_1 c.requires.fact_2 (omega arith)
 
 pub overflow_mul-s : goal.overflow_mul-s
 overflow_mul-s c = omega (arith, digits (goal.at.overflow_mul-s c).Start)
 
 pub half_root-m-requires : goal.half_root-m-requires
-half_root-m-requires c = (omega (arith, digits (goal.at.half_root-m-requires c).Start), (omega arith, omega arith))
+half_root-m-requires c = record { fact_1 = omega (arith, digits (goal.at.half_root-m-requires c).Start); fact_2 = omega arith; fact_3 = omega arith }
 
 pub overflow_add-result-2 : goal.overflow_add-result-2
 overflow_add-result-2 c = omega (arith, q_high _ _ (digits (goal.at.overflow_add-result-2 c).Start).1 c.half_root-m.ensures.whole, c.half_root-m.ensures.half)

@@ -5,7 +5,7 @@ use Rattle.float64.proofs.root.widened.Goals.{In-loop-s}
 use Rattle.float64.proofs.root.widened.Goals as goal
 
 some : (c : In-loop-s) → 0 < c.loop-s.e
-some c = shift_some _ _ _ c.requires.0 c.loop-s.invariant c.loop-s-test.true
+some c = shift_some _ _ _ c.requires.fact_1 c.loop-s.invariant c.loop-s-test.true
 
 pub loop-s-init : goal.loop-s-init
 loop-s-init c = record { same = refl; high = omega arith; most = omega arith }
@@ -17,7 +17,7 @@ pub loop-s-smaller : goal.loop-s-smaller
 loop-s-smaller c = omega (arith, some (goal.at.loop-s-smaller c).In-loop-s)
 
 pub loop-s-preserved : goal.loop-s-preserved
-loop-s-preserved c = shift_more _ _ _ c.requires.0 c.loop-s.invariant c.loop-s-test.true
+loop-s-preserved c = shift_more _ _ _ c.requires.fact_1 c.loop-s.invariant c.loop-s-test.true
 
 pub returns : goal.returns
 returns c =

@@ -1,5 +1,4 @@
--- `update` meets its contract. The loop's invariant: of whatever matrix l the leading row's step was taken, the rows above i have had theirs.
--- in a turn
+-- `update` meets its contract. The loop's invariant: of whatever matrix z the leading row's step was taken, the rows above i have had theirs.
 use mathlib.Core.Path.{◌≡◌}
 use mathlib.Core.List.{List}
 use Prim.Native.Nat.{◌+◌, ◌*◌, ◌-◌, ◌≤◌}
@@ -13,4 +12,4 @@ use Rattle.householder.proofs.inner.update.Given as goal
 abbrev pub invariant-loop-i : goal.invariant-loop-i
 invariant-loop-i l =
     (l.j + 1 ≤ l.i) × (l.i ≤ l.m) × (length l.a ≡ length l.initial.a)
-    × ((l : List Float) → length l ≡ l.m * l.n → Rows l.m l.n (New l.j l.x (at l.t) (cell l.n l)) l (l.j + 1) l.initial.a → Rows l.m l.n (New l.j l.x (at l.t) (cell l.n l)) l l.i l.a)
+    × ((z : List Float) → length z ≡ l.m * l.n → Rows l.m l.n (New l.j l.x (at l.t) (cell l.n z)) z (l.j + 1) l.initial.a → Rows l.m l.n (New l.j l.x (at l.t) (cell l.n z)) z l.i l.a)

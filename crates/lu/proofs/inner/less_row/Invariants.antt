@@ -8,4 +8,4 @@ use Rattle.lu.proofs.inner.less_row.Given as goal
 
 abbrev pub invariant-loop-j : goal.invariant-loop-j
 invariant-loop-j l =
-    (l.k + 1 ≤ l.j) × (l.j ≤ l.n) × (length l.a ≡ l.n * l.n) × (l.a ≡ loop (l.k + 1) l.j (λ c l. set l (l.i * l.n + c) (less (cell l.n l l.i c) (times l.factor (cell l.n l l.k c)))) l.initial.a)
+    (l.k + 1 ≤ l.j) × (l.j ≤ l.n) × (length l.a ≡ l.n * l.n) × (l.a ≡ loop (l.k + 1) l.j (λ c xs. set xs (l.i * l.n + c) (less (cell l.n xs l.i c) (times l.factor (cell l.n xs l.k c)))) l.initial.a)

@@ -8,4 +8,4 @@ use Rattle.steps.specs.Space.{swapped}
 use Rattle.lu.proofs.inner.swap_rows.Given as goal
 
 abbrev pub invariant-loop-j : goal.invariant-loop-j
-invariant-loop-j l = (l.j ≤ l.n) × (length l.a ≡ l.n * l.n) × (l.a ≡ loop 0 l.j (λ c l. swapped (l.k * l.n + c) (l.r * l.n + c) l) l.initial.a)
+invariant-loop-j l = (l.j ≤ l.n) × (length l.a ≡ l.n * l.n) × (l.a ≡ loop 0 l.j (λ c xs. swapped (l.k * l.n + c) (l.r * l.n + c) xs) l.initial.a)

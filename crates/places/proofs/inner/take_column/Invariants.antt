@@ -7,4 +7,4 @@ use Rattle.places.proofs.inner.take_column.Given as goal
 
 abbrev pub invariant-loop-k : goal.invariant-loop-k
 invariant-loop-k l =
-    (l.k ≤ l.h) × Wrote (λ l.k. l.k * l.width + l.first) 0 l.k (λ l.k. cell l.n_rows l.theta l.term_idx.0 (l.i + l.k)) l.initial.page l.page
+    (l.k ≤ l.h) × Wrote (λ k. k * l.width + l.first) 0 l.k (λ k. cell l.n_rows l.theta l.term_idx.0 (l.i + k)) l.initial.page l.page

@@ -13,4 +13,4 @@ use Rattle.transpose.proofs.inner.turn_column.Given as goal
 abbrev pub invariant-loop-i : goal.invariant-loop-i
 invariant-loop-i l =
     (l.j ≤ l.i) × (l.i ≤ l.m) × (length l.s ≡ length l.initial.s)
-    × (l.s ≡ take (l.m * l.n) l.initial.s ++ loop l.j l.i (λ l.i l. set l l.i (less (at l l.i) (times l.t (led one (cell l.n (take (l.m * l.n) l.initial.s)) l.j l.i)))) (drop (l.m * l.n) l.initial.s))
+    × (l.s ≡ take (l.m * l.n) l.initial.s ++ loop l.j l.i (λ i xs. set xs i (less (at xs i) (times l.t (led one (cell l.n (take (l.m * l.n) l.initial.s)) l.j i)))) (drop (l.m * l.n) l.initial.s))

@@ -7,4 +7,4 @@ use Rattle.leftover.specs.Error.{square}
 use Rattle.leftover.proofs.inner.columns.add_squares.Given as goal
 
 abbrev pub invariant-loop-m : goal.invariant-loop-m
-invariant-loop-m l = (l.m ≤ l.h) × (l.error ≡ sum l.start 0 l.m (λ l.m. square (less (at l.target (l.i + l.m)) (at l.sums l.m))))
+invariant-loop-m l = (l.m ≤ l.h) × (l.error ≡ sum l.start 0 l.m (λ k. square (less (at l.target (l.i + k)) (at l.sums k))))

@@ -6,4 +6,4 @@ use Rattle.leftover.proofs.inner.columns.add_term.Given as goal
 
 abbrev pub invariant-loop-m : goal.invariant-loop-m
 invariant-loop-m l =
-    (l.m ≤ l.h) × Wrote (λ l.m. l.m) 0 l.m (λ l.m. plus (at l.initial.sums l.m) (times (cell l.n_rows l.theta l.term_idx.0 (l.i + l.m)) l.x)) l.initial.sums l.sums
+    (l.m ≤ l.h) × Wrote (λ k. k) 0 l.m (λ k. plus (at l.initial.sums k) (times (cell l.n_rows l.theta l.term_idx.0 (l.i + k)) l.x)) l.initial.sums l.sums

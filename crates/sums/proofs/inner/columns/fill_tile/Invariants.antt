@@ -5,4 +5,4 @@ use Rattle.steps.specs.Wrote.{Wrote}
 use Rattle.sums.proofs.inner.columns.fill_tile.Given as goal
 
 abbrev pub invariant-loop-q : goal.invariant-loop-q
-invariant-loop-q l = (l.q ≤ 4) × Wrote (λ l.q. l.k * l.n_cols + (l.j + l.q)) 0 l.q (λ l.q. cell l.n_rows l.theta (l.j + l.q) l.i) l.initial.page l.page
+invariant-loop-q l = (l.q ≤ 4) × Wrote (λ q. l.k * l.n_cols + (l.j + q)) 0 l.q (λ q. cell l.n_rows l.theta (l.j + q) l.i) l.initial.page l.page

@@ -5,4 +5,4 @@ use Rattle.steps.specs.Wrote.{Wrote}
 use Rattle.sums.proofs.inner.pages.fill_rows.Given as goal
 
 abbrev pub invariant-loop-k : goal.invariant-loop-k
-invariant-loop-k l = (l.k ≤ l.k-end) × Wrote (λ l.k. l.k) 0 l.k (λ l.k. at l.theta (l.from + l.k)) l.initial.page l.page
+invariant-loop-k l = (l.k ≤ l.k-end) × Wrote (λ k. k) 0 l.k (λ k. at l.theta (l.from + k)) l.initial.page l.page

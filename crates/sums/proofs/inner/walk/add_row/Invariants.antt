@@ -6,4 +6,4 @@ use Rattle.sums.proofs.inner.walk.add_row.Given as goal
 
 abbrev pub invariant-loop-q : goal.invariant-loop-q
 invariant-loop-q l =
-    (l.q ≤ l.n_cols) × Wrote (λ l.q. l.q) 0 l.q (λ l.q. plus (at l.initial.sums l.q) (times l.x (cell l.n_cols l.theta l.i l.q))) l.initial.sums l.sums
+    (l.q ≤ l.n_cols) × Wrote (λ q. q) 0 l.q (λ q. plus (at l.initial.sums q) (times l.x (cell l.n_cols l.theta l.i q))) l.initial.sums l.sums
