@@ -1,12 +1,12 @@
 -- `find_pivot` meets its contract. The loop's invariant: row is the pivot's row among those passed, size its magnitude.
 use mathlib.Core.Path.{sym, ◌∙◌}
-use mathlib.Core.Logic.{⊎_elim}
 use Prim.Native.Nat.{◌-◌}
 use native.Mathlib.Omega.{arith}
 use lib.Arith.{digits_lt}
 use Rattle.steps.specs.Num.{cell}
 use Rattle.steps.specs.Loops.{loop_none, loop_more, loop_end}
 use Rattle.lu.specs.Lu.{pivot_row}
+use Rattle.lu.proofs.inner.find_pivot.Goals.{then-size-v, else-size-v}
 use Rattle.lu.proofs.inner.find_pivot.Goals as goal
 
 pub cell-requires : goal.cell-requires
@@ -22,10 +22,10 @@ pub loop-i-preserved : goal.loop-i-preserved
 loop-i-preserved c =
     let turn = c.loop-i in
     let v = rw c.cell-in-loop-i.ensures at c.abs-v.ensures in
-    ⊎_elim
-    (λ w. (omega arith, omega arith, omega (arith, w.2), w.2 ∙ loop_more _ turn.i _ _ turn.invariant.0 turn.invariant.3 (rw (← turn.invariant.4, ← v, w.0.taken)), w.1 ∙ rw w.2 v))
-    (λ w. (omega arith, omega arith, omega (arith, w.2), w.2 ∙ loop_more _ turn.i _ _ turn.invariant.0 turn.invariant.3 (rw (← turn.invariant.4, ← v, w.0.left)), w.1 ∙ rw w.2 turn.invariant.4))
-    c.if-size-v.branch
+    elim c.if-size-v.branch [
+      then-size-v w ↦ (omega arith, omega arith, omega (arith, w.row-is), w.row-is ∙ loop_more _ turn.i _ _ turn.invariant.0 turn.invariant.3 (rw (← turn.invariant.4, ← v, w.if-size-v.true)), w.size-is ∙ rw w.row-is v)
+    | else-size-v w ↦ (omega arith, omega arith, omega (arith, w.row-is), w.row-is ∙ loop_more _ turn.i _ _ turn.invariant.0 turn.invariant.3 (rw (← turn.invariant.4, ← v, w.if-size-v.false)), w.size-is ∙ rw w.row-is turn.invariant.4)
+    ]
 
 pub returns : goal.returns
 unfolding pivot_row

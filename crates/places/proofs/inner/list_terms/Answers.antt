@@ -1,44 +1,46 @@
 -- `list_terms` meets its contract. The loop's invariant: the places of the terms passed are listed.
 -- the place of a term is one of the table
 use mathlib.Core.Path.{refl, sym, ◌∙◌}
-use mathlib.Core.Logic.{⊎_elim}
-use Prim.Native.Nat.{◌-◌, ◌<◌}
+use mathlib.Core.Path.{◌≡◌}
+use mathlib.Core.Bool.{true}
+use Prim.Native.Nat.{ℕ, ◌^◌, ◌≤◌, ◌<◌}
 use native.Mathlib.Omega.{arith}
 use lib.Count.{ones-le}
 use lib.ListN.{length, length-set}
-use Rattle.support.specs.Word.{place}
+use Rattle.support.specs.Word.{has, place}
 use Rattle.places.proofs.Places.{place_below, list_none, list_take, list_skip, list_end}
-use Rattle.places.proofs.inner.list_terms.Goals.{Then-contains}
+use Rattle.places.proofs.inner.list_terms.Goals.{then-contains, else-contains}
 use Rattle.places.proofs.inner.list_terms.Goals as goal
 
 pub loop-j-init : goal.loop-j-init
 loop-j-init c = (omega arith, refl, list_none _ _ c.requires.0 _)
 
-room : (c : Then-contains) → place c.args.support.0 c.loop-j.j < length c.loop-j.terms
-room c =
-    let terms = c.requires.0 in
-    omega (arith, c.requires.1, c.loop-j.invariant.1, ones-le _ _ terms, place_below _ _ terms c.loop-j.j (sym c.contains.ensures ∙ c.if-contains.true))
+room_for : (w n j : ℕ) {long most : ℕ} → w < 2 ^ n → n ≤ most → long ≡ most → has w j ≡ true → place w j < long
+room_for w n j terms fits e h = omega (arith, fits, e, ones-le _ _ terms, place_below _ _ terms j h)
 
 pub put_term-requires : goal.put_term-requires
-put_term-requires c = omega (arith, c.place-col.ensures, room (goal.at.put_term-requires c).Then-contains)
+put_term-requires c =
+    let room : place c.args.support.0 c.loop-j.j < length c.loop-j.terms = room_for _ _ _ c.requires.0 c.requires.1 c.loop-j.invariant.1 (sym c.contains.ensures ∙ c.if-contains.true) in
+    omega (arith, c.place-col.ensures, room)
 
 pub loop-j-preserved : goal.loop-j-preserved
 loop-j-preserved c =
     let turn = c.loop-j in
     let terms = c.requires.0 in
     let test = sym c.contains.ensures in
-    ⊎_elim
-    (λ in_it.
-    let col = in_it.1.ensures in
-    let put = in_it.3.ensures in
-    let after = in_it.6 in (
-      omega arith,
-      rw (after, put) (simp length-set turn.invariant.1),
-      rw (after, put, col)
-          (list_take _ _ terms turn.j turn.terms (test ∙ in_it.0.taken) (room (record { before = c; if1 = in_it.0 })) turn.invariant.2),
-    ))
-    (λ not_in. (omega arith, rw not_in.1 turn.invariant.1, rw not_in.1 (list_skip _ _ terms turn.j turn.terms (test ∙ not_in.0.left) turn.invariant.2)))
-    c.if-contains.branch
+    elim c.if-contains.branch [
+      then-contains in_it ↦
+      let room : place c.args.support.0 turn.j < length turn.terms = room_for _ _ _ terms c.requires.1 turn.invariant.1 (test ∙ in_it.if-contains.true) in (
+        omega arith,
+        rw (in_it.terms-is, in_it.put_term.ensures) (simp length-set turn.invariant.1),
+        rw (in_it.terms-is, in_it.put_term.ensures, in_it.place-col.ensures) (list_take _ _ terms turn.j turn.terms (test ∙ in_it.if-contains.true) room turn.invariant.2),
+      )
+    | else-contains not_in ↦ (
+        omega arith,
+        rw not_in.terms-is turn.invariant.1,
+        rw not_in.terms-is (list_skip _ _ terms turn.j turn.terms (test ∙ not_in.if-contains.false) turn.invariant.2),
+      )
+    ]
 
 pub shape_of-terms : goal.shape_of-terms
 shape_of-terms c = c.loop-j.invariant.1

@@ -2,7 +2,6 @@
 -- the place that is looked for. The measure is what is left of the 64 terms. Assumes nothing.
 -- the term that is met when the place is reached
 use mathlib.Core.Path.{◌≡◌, sym, ap, ◌∙◌}
-use mathlib.Core.Logic.{⊎_elim}
 use mathlib.Core.Bool.{true}
 use Prim.Native.Nat.{ℕ, ◌-◌, ◌<◌}
 use native.Mathlib.Omega.{arith}
@@ -10,6 +9,7 @@ use Rattle.support.specs.Word.{has, count, term_at}
 use Rattle.support.specs.WordLaws.{passed}
 use Rattle.support.specs.CountLaws.{count_none, count_take, count_skip}
 use Rattle.support.specs.TermLaws.{term_of_place, term_beyond}
+use Rattle.support.proofs.Support.term_at.Goals.{then-contains+else-seen-at, else-contains}
 use Rattle.support.proofs.Support.term_at.Goals as goal
 
 found : (w j p : ℕ) {seen : ℕ} → j < 64 → has w j ≡ true → seen ≡ count (has w) j → seen ≡ p → j ≡ term_at w p
@@ -27,10 +27,10 @@ pub loop-j-preserved : goal.loop-j-preserved
 loop-j-preserved c =
     let test = sym c.contains.ensures in
     let w = c.args.self.0 in
-    ⊎_elim
-    (λ in_it. (omega arith, omega (arith, count_take (has w) c.loop-j.j (test ∙ in_it.0.taken)), omega (arith, in_it.1.left)))
-    (λ not_in. (omega arith, omega (arith, count_skip (has w) c.loop-j.j (test ∙ not_in.0.left)), omega arith))
-    c.if-contains.branch
+    elim c.if-contains.branch [
+      then-contains+else-seen-at in_it ↦ (omega arith, omega (arith, count_take (has w) c.loop-j.j (test ∙ in_it.if-contains.true), in_it.seen-is), omega (arith, in_it.seen-is))
+    | else-contains not_in ↦ (omega arith, omega (arith, count_skip (has w) c.loop-j.j (test ∙ not_in.if-contains.false), not_in.seen-is), omega (arith, not_in.seen-is))
+    ]
 
 pub returns : goal.returns
 returns c =
