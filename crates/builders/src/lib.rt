@@ -1,4 +1,6 @@
 // The sums of the normal equations: the public calls.
+#![tactic(auto)]
+
 mod sizes;
 
 ghost use Rattle.sums.specs.Products.{ridge, marquardt};

@@ -1,4 +1,6 @@
 // What a C or Rust program links: thin exports, each with the contract of the call behind it. An answer is 0 or the refusal's number.
+#![tactic(auto)]
+
 mod columns;
 mod explain;
 mod fits;

@@ -1,4 +1,6 @@
 // The exchange of the program that says why: the bytes of an input in, a line for each term out.
+#![tactic(auto)]
+
 mod lines;
 mod terms;
 

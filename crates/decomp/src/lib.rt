@@ -1,4 +1,6 @@
 // Householder QR: the public call.
+#![tactic(auto)]
+
 mod ready;
 
 ghost use Rattle.std.specs.Prelude.{◌≡◌};

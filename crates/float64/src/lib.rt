@@ -1,4 +1,5 @@
 // The square root of an f64, rounded once, its absolute value, and the greater of two. `sqrt` and `abs` work on bits.
+#![tactic(auto)]
 
 mod root;
 

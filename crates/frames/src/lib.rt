@@ -1,4 +1,6 @@
 // The bench program's exchange: the bytes of an input in, those of its answer out.
+#![tactic(auto)]
+
 mod fit;
 
 ghost use Rattle.std.specs.Prelude.{◌≡◌};

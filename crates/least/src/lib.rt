@@ -1,2 +1,4 @@
 // Least squares, for `solve` and the fits: nothing here is a public call.
+#![tactic(auto)]
+
 pub mod inner;

@@ -1,2 +1,4 @@
 // The normal equations, for `solve`: nothing here is a public call.
+#![tactic(auto)]
+
 pub mod inner;

@@ -1,4 +1,6 @@
 // The refusals of document 01, and the answers that are made of them.
+#![tactic(auto)]
+
 pub mod inner;
 
 ghost use Rattle.std.specs.Prelude.{◌≡◌};

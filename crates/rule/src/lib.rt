@@ -1,4 +1,6 @@
 // What a fit is given and what it reports.
+#![tactic(auto)]
+
 pub mod inner;
 
 ghost use Rattle.std.specs.Prelude.{◌≡◌};

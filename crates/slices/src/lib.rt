@@ -1,2 +1,4 @@
 // Helpers on lent slices, for the crates above: nothing here is a public call.
+#![tactic(auto)]
+
 pub mod inner;

@@ -1,4 +1,6 @@
 // The solvers: the public calls.
+#![tactic(auto)]
+
 mod ready;
 mod sizes;
 

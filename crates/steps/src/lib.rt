@@ -1,1 +1,2 @@
 // The words that the rules are written in: definitions and laws alone, in specs/.
+#![tactic(auto)]

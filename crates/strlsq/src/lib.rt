@@ -1,4 +1,6 @@
 // The three fits, over one loop: of theta by rows, and by columns.
+#![tactic(auto)]
+
 pub mod inner;
 
 ghost use Rattle.rule.specs.Tasks.{task_of, by_columns};

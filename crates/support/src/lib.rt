@@ -1,4 +1,6 @@
 // The support of a fit: which terms are in it, as a value of 64 bits. Every method is total: a term of 64 or more is in no support.
+#![tactic(auto)]
+
 ghost use Rattle.std.specs.Prelude.{◌≡◌, eqb};
 ghost use Rattle.std.specs.Int.Count.{ones};
 ghost use Rattle.support.specs.Word.{has, place as place_of, alone as Alone-of, full as full-of, with_term, without_term, term_at};

@@ -1,4 +1,6 @@
 // Why a term of a fit was kept or not.
+#![tactic(auto)]
+
 pub mod inner;
 
 ghost use Rattle.std.specs.Prelude.{◌≡◌};

@@ -28,7 +28,7 @@ loop-j-preserved c =
     let j = turn.j - 1 in
     let pos : 0 < turn.j = omega arith in
     let early : place w j < turn.j = omega (arith, place_is w j, count_le (has w) j) in
-    let value = c.value_of_lem.ensures ∙ ap (λ (x : Float). cond (has w j) x +zero) (turn.invariant.1.rest (place w j) early) in
+    let value = c.value_of-x.ensures ∙ ap (λ (x : Float). cond (has w j) x +zero) (turn.invariant.1.rest (place w j) early) in
     (omega arith, rw c.put.ensures (spread_more turn.j _ a.coeffs.now turn.coeffs _ pos turn.invariant.0 turn.invariant.1 value))
 
 pub shape_of-coeffs : goal.shape_of-coeffs

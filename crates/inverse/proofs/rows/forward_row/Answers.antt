@@ -26,8 +26,7 @@ loop-k-smaller c = omega (arith, c)
 
 pub loop-k-preserved : goal.loop-k-preserved
 loop-k-preserved c =
-    let turn = c.loop-k in
-    (
+    let turn = c.loop-k in (
       omega (arith, c),
       lost_more _ _ _ 0 _ turn.k turn.x _ (omega arith) (omega (arith, c, c.requires.2)) (λ e. omega (arith, c, e))
           turn.invariant.1 (rw c.cell.ensures at c.less_row.ensures),

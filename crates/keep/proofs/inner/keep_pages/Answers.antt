@@ -24,12 +24,11 @@ fill_page-requires c =
     (c.requires.0, omega (arith, c.loop-left.invariant.0, c.page_rows-h.ensures.1), omega (arith, c.requires.2, c.loop-left.invariant.1, few))
 
 pub take_page-requires : goal.take_page-requires
-take_page-requires c =
-    (
-      omega (arith, c.requires.2, c.loop-left.invariant.1, c.fill_page.auto, mul-le-mul_right c.args.n_cols c.page_rows-h.ensures.2),
-      omega (arith, c.requires.1, c.loop-left.invariant.0, c.page_rows-h.ensures.1),
-      c.loop-left.invariant.2.long,
-    )
+take_page-requires c = (
+  omega (arith, c.requires.2, c.loop-left.invariant.1, c.fill_page.auto, mul-le-mul_right c.args.n_cols c.page_rows-h.ensures.2),
+  omega (arith, c.requires.1, c.loop-left.invariant.0, c.page_rows-h.ensures.1),
+  c.loop-left.invariant.2.long,
+)
 
 pub overflow_sub-left : goal.overflow_sub-left
 overflow_sub-left c =

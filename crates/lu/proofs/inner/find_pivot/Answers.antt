@@ -23,8 +23,8 @@ loop-i-preserved c =
     let turn = c.loop-i in
     let v = rw c.cell-in-loop-i.ensures at c.abs-v.ensures in
     elim c.if-size-v.branch [
-      then-size-v w ↦ (omega arith, omega arith, omega (arith, w.row-is), w.row-is ∙ loop_more _ turn.i _ _ turn.invariant.0 turn.invariant.3 (rw (← turn.invariant.4, ← v, w.if-size-v.true)), w.size-is ∙ rw w.row-is v)
-    | else-size-v w ↦ (omega arith, omega arith, omega (arith, w.row-is), w.row-is ∙ loop_more _ turn.i _ _ turn.invariant.0 turn.invariant.3 (rw (← turn.invariant.4, ← v, w.if-size-v.false)), w.size-is ∙ rw w.row-is turn.invariant.4)
+      | then-size-v w ↦ (omega arith, omega arith, omega (arith, w.row-is), w.row-is ∙ loop_more _ turn.i _ _ turn.invariant.0 turn.invariant.3 (rw (← turn.invariant.4, ← v, w.if-size-v.true)), w.size-is ∙ rw w.row-is v)
+      | else-size-v w ↦ (omega arith, omega arith, omega (arith, w.row-is), w.row-is ∙ loop_more _ turn.i _ _ turn.invariant.0 turn.invariant.3 (rw (← turn.invariant.4, ← v, w.if-size-v.false)), w.size-is ∙ rw w.row-is turn.invariant.4)
     ]
 
 pub returns : goal.returns

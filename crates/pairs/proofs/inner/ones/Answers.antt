@@ -27,7 +27,7 @@ loop-q-preserved c =
       omega arith,
       rw c.put.ensures
           (beside _ _ _ _ _ turn.q _ _ _ turn.out _ (omega arith) (omega arith) refl turn.invariant.2
-          (one_entry _ _ _ turn.q turn.out _ (omega (arith, turn.invariant.2.long, room)) (omega arith) c.Sum-one.ensures)),
+          (one_entry _ _ _ turn.q turn.out _ (omega (arith, turn.invariant.2.long, room)) (omega arith) c.sum_one-x.ensures)),
     )
 
 pub shape_of-out : goal.shape_of-out

@@ -29,13 +29,13 @@ loop-j-preserved c =
     let terms = c.requires.0 in
     let test = sym c.contains.ensures in
     elim c.if-contains.branch [
-      then-contains in_it ↦
-      let room : place c.args.support.0 turn.j < length turn.terms = room_for _ _ _ terms c.requires.1 turn.invariant.1 (test ∙ in_it.if-contains.true) in (
-        omega arith,
-        rw (in_it.terms-is, in_it.put_term.ensures) (simp length-set turn.invariant.1),
-        rw (in_it.terms-is, in_it.put_term.ensures, in_it.place-col.ensures) (list_take _ _ terms turn.j turn.terms (test ∙ in_it.if-contains.true) room turn.invariant.2),
-      )
-    | else-contains not_in ↦ (
+      | then-contains in_it ↦
+          let room : place c.args.support.0 turn.j < length turn.terms = room_for _ _ _ terms c.requires.1 turn.invariant.1 (test ∙ in_it.if-contains.true) in (
+            omega arith,
+            rw (in_it.terms-is, in_it.put_term.ensures) (simp length-set turn.invariant.1),
+            rw (in_it.terms-is, in_it.put_term.ensures, in_it.place-col.ensures) (list_take _ _ terms turn.j turn.terms (test ∙ in_it.if-contains.true) room turn.invariant.2),
+          )
+      | else-contains not_in ↦ (
         omega arith,
         rw not_in.terms-is turn.invariant.1,
         rw not_in.terms-is (list_skip _ _ terms turn.j turn.terms (test ∙ not_in.if-contains.false) turn.invariant.2),

@@ -28,8 +28,8 @@ loop-j-preserved c =
     let test = sym c.contains.ensures in
     let w = c.args.self.0 in
     elim c.if-contains.branch [
-      then-contains+else-seen-at in_it ↦ (omega arith, omega (arith, count_take (has w) c.loop-j.j (test ∙ in_it.if-contains.true), in_it.seen-is), omega (arith, in_it.seen-is))
-    | else-contains not_in ↦ (omega arith, omega (arith, count_skip (has w) c.loop-j.j (test ∙ not_in.if-contains.false), not_in.seen-is), omega (arith, not_in.seen-is))
+      | then-contains+else-seen-at in_it ↦ (omega arith, omega (arith, count_take (has w) c.loop-j.j (test ∙ in_it.if-contains.true), in_it.seen-is), omega (arith, in_it.seen-is))
+      | else-contains not_in ↦ (omega arith, omega (arith, count_skip (has w) c.loop-j.j (test ∙ not_in.if-contains.false), not_in.seen-is), omega (arith, not_in.seen-is))
     ]
 
 pub returns : goal.returns

@@ -39,9 +39,9 @@ loop-q-preserved c =
     let above : turn.q < n = omega arith in (
       omega arith,
       rw c.put.ensures
-          (wrote_more (λ c. p * n + c) 0 turn.q (λ c. cell n s c p) s turn.out _
-          (omega arith) (omega (arith, c.requires.0, digits_lt c.requires.1 above)) (λ c h h' e. omega arith) turn.invariant.1
-          (c.cell-x.ensures ∙ turn.invariant.1.rest (turn.q * n + p) (λ c h h' e. rows_apart n turn.q p p c (inl left) c.requires.1 (omega arith) e))),
+          (wrote_more (λ k. p * n + k) 0 turn.q (λ k. cell n s k p) s turn.out _
+          (omega arith) (omega (arith, c.requires.0, digits_lt c.requires.1 above)) (λ k h h' e. omega arith) turn.invariant.1
+          (c.cell-x.ensures ∙ turn.invariant.1.rest (turn.q * n + p) (λ k h h' e. rows_apart n turn.q p p k (inl left) c.requires.1 (omega arith) e))),
     )
 
 pub shape_of-out : goal.shape_of-out
