@@ -1,5 +1,5 @@
 -- `formed` makes its definition's tests one by one.
-use borrow.Author.Tests.{le-leb, lt-leb, not-true, not-false}
+use borrow.Author.Tests.{le-leb, lt-leb}
 use mathlib.Core.Path.{sym, ◌∙◌}
 use Rattle.reader.specs.Header.{header_formed}
 use Rattle.reader.proofs.inner.header.formed.Goals as goal
@@ -10,9 +10,9 @@ returns-then-s-lt-FRAME c = simp (lt-leb _ _ c.if-s-lt-FRAME.true)
 
 pub returns-then-not-all_hex : goal.returns-then-not-all_hex
 unfolding header_formed
-returns-then-not-all_hex c = simp (le-leb _ _ c.if-s-lt-FRAME.false, sym c.all_hex.ensures ∙ not-true _ c.if-not-all_hex.true)
+returns-then-not-all_hex c = simp (le-leb _ _ c.if-s-lt-FRAME.false, sym c.all_hex.ensures ∙ c.if-not-all_hex.true)
 
 pub returns : goal.returns
 unfolding header_formed
 returns c =
-    simp (le-leb _ _ c.if-s-lt-FRAME.false, sym c.all_hex.ensures ∙ not-false _ c.if-not-all_hex.false)
+    simp (le-leb _ _ c.if-s-lt-FRAME.false, sym c.all_hex.ensures ∙ c.if-not-all_hex.false)

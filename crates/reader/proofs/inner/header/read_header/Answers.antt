@@ -3,7 +3,6 @@
 use mathlib.Core.Path.{◌≡◌, sym, ◌∙◌}
 use mathlib.Core.Bool.{true}
 use native.Mathlib.Omega.{arith}
-use borrow.Author.Tests.{not-true, not-false}
 use Rattle.hexdigits.specs.Hex.{Digits}
 use Rattle.hexdigits.specs.Parts.{part_digits}
 use Rattle.reader.specs.Header.{header_digits, header_formed, head_of}
@@ -12,14 +11,14 @@ use Rattle.reader.proofs.inner.header.read_header.Goals.{Else-not-formed}
 use Rattle.reader.proofs.inner.header.read_header.Goals as goal
 
 is-formed : (c : Else-not-formed) → header_formed c.args.s.now ≡ true
-is-formed c = sym c.formed.ensures ∙ not-false _ c.if-not-formed.false
+is-formed c = sym c.formed.ensures ∙ c.if-not-formed.false
 
 digits : (c : Else-not-formed) → Digits c.args.s.now 0 header_digits
 digits c = header_has _ (is-formed c)
 
 pub returns-then-not-formed : goal.returns-then-not-formed
 unfolding head_of
-returns-then-not-formed c = simp (sym c.formed.ensures ∙ not-true _ c.if-not-formed.true)
+returns-then-not-formed c = simp (sym c.formed.ensures ∙ c.if-not-formed.true)
 
 pub number_at-requires : goal.number_at-requires
 number_at-requires c = (part_digits 0 2 (digits (goal.at.number_at-requires c).Else-not-formed) (omega arith) (omega arith), omega arith)
