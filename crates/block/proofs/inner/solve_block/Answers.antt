@@ -1,5 +1,4 @@
 -- `solve_block` meets its contract: the table's terms are the support's.
--- after the terms are listed
 use mathlib.Core.Path.{◌≡◌, ◌∙◌}
 use Prim.Native.Nat.{ℕ}
 use native.Mathlib.Omega.{arith}
@@ -9,35 +8,30 @@ use Rattle.places.specs.Columns.{Names}
 use Rattle.places.specs.ColumnLaws.{names_in}
 use Rattle.sums.specs.Inner.{damps}
 use Rattle.block.proofs.Chosen.{block_listed, side_listed}
-use Rattle.block.proofs.inner.solve_block.Goals.{After-list_terms, Start}
+use Rattle.block.proofs.inner.solve_block.Goals.{After-list_terms}
 use Rattle.block.proofs.inner.solve_block.Goals as goal
 
-module _ (c : After-list_terms) where
-  abbrev start : Start
-  start = c
-
-  names : (k : ℕ) → k ≡ ones start.args.support.0 → Names start.args.n_cols k c.list_terms.new.terms
-  names k e = names_in _ _ _ c.list_terms.ensures k start.requires.0 start.requires.1 e (omega (arith, c.list_terms.auto.terms, start.requires.0))
+names : (c : After-list_terms) (k : ℕ) → k ≡ ones c.args.support.0 → Names c.args.n_cols k c.list_terms.new.terms
+names c k e = names_in _ _ _ c.list_terms.ensures k c.requires.0 c.requires.1 e (omega (arith, c.list_terms.auto.terms, c.requires.0))
 
 pub take_side-requires : goal.take_side-requires
 take_side-requires c =
-    record { names = names (goal.at.take_side-requires c).After-list_terms _ (start (goal.at.take_side-requires c).After-list_terms).requires.2; long = (start (goal.at.take_side-requires c).After-list_terms).requires.3 }
+    record { names = names (goal.at.take_side-requires c).After-list_terms _ c.requires.2; long = c.requires.3 }
 
 pub solve_listed-requires : goal.solve_listed-requires
 solve_listed-requires c =
-    let same : length c.take_side.new.b ≡ length (start (goal.at.solve_listed-requires c).After-list_terms).args.b.now = c.take_side.auto.b in
-    record { names = names (goal.at.solve_listed-requires c).After-list_terms _ (same ∙ (start (goal.at.solve_listed-requires c).After-list_terms).requires.2); long = rw same (start (goal.at.solve_listed-requires c).After-list_terms).requires.3 }
+    let same : length c.take_side.new.b ≡ length c.args.b.now = c.take_side.auto.b in
+    record { names = names (goal.at.solve_listed-requires c).After-list_terms _ (same ∙ c.requires.2); long = rw same c.requires.3 }
 
 pub returns : goal.returns
 returns c =
-    let begin = start (goal.at.returns c).After-list_terms in
-    let a = begin.args in
-    let count : length c.take_side.new.b ≡ ones a.support.0 = c.take_side.auto.b ∙ begin.requires.2 in
+    let a = c.args in
+    let count : length c.take_side.new.b ≡ ones a.support.0 = c.take_side.auto.b ∙ c.requires.2 in
     let ws = a.ws.now in
     let l = c.list_terms.ensures in
     let made = c.solve_listed.ensures in
     record {
-      values = rw (count, c.take_side.ensures, begin.requires.2, block_listed a.n_cols a.support.0 l ws (damps a.damping), side_listed a.n_cols a.support.0 l ws)
+      values = rw (count, c.take_side.ensures, c.requires.2, block_listed a.n_cols a.support.0 l ws (damps a.damping), side_listed a.n_cols a.support.0 l ws)
           at made.values;
       kept = made.kept;
     }

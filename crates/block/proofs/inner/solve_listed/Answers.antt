@@ -1,5 +1,4 @@
 -- `solve_listed` meets its contract: both solves see the block as it was taken, and none touches the kept sums.
--- after Cholesky
 use mathlib.Core.Path.{◌≡◌, ◌∙◌}
 use mathlib.Core.List.{List}
 use Prim.Native.Nat.{◌+◌, ◌*◌}
@@ -14,66 +13,39 @@ use Rattle.cholesky.specs.Cholesky.{cholesky}
 use Rattle.normal.specs.Ends.{normal_goes, normal_by_lu}
 use Rattle.block.specs.Listed.{Room, listed_pair}
 use Rattle.block.proofs.Again.{left_long, left_kept, anew}
-use Rattle.block.proofs.inner.solve_listed.Goals.{After-cholesky, After-take_block, Start}
+use Rattle.block.proofs.inner.solve_listed.Goals.{After-cholesky}
 use Rattle.block.proofs.inner.solve_listed.Goals as goal
 
 module _ (c : After-cholesky) where
-  abbrev taken : After-take_block
-  taken = c
+  by_cholesky : told c.cholesky.result (c.cholesky.new.a, c.cholesky.new.b)
+      ≡ cholesky (length c.args.b.now) (jtj_matrix (damps c.args.damping) (length c.args.b.now) (listed_pair c.args.n_cols c.args.terms.now c.args.ws.now)) c.args.b.now
+  by_cholesky = rw c.take_block.ensures.block at c.cholesky.ensures
 
-  abbrev start : Start
-  start = taken.before.before.before.before.before
+  block_room : length c.take_block.new.ws ≡ kept_size c.args.n_cols + length c.args.b.now * length c.args.b.now
+  block_room = c.take_block.auto.ws ∙ c.requires.long
 
-  abbrev b : List Float
-  b = start.args.b.now
-
-  abbrev room : Room start.args.n_cols (length b) start.args.terms.now start.args.ws.now
-  room = start.pre
-
-  abbrev damping : Float → Float
-  damping = damps start.args.damping
-
-  -- the workspace with the block, and what Cholesky left of that
-  abbrev block : List Float
-  block = taken.take-block.last.0
-
-  abbrev left : List Float
-  left = c.cholesky.new.a
-
-  by-cholesky : told c.cholesky.result (left, c.cholesky.new.b)
-      ≡ cholesky (length b) (jtj_matrix damping (length b) (listed_pair start.args.n_cols start.args.terms.now start.args.ws.now)) b
-  by-cholesky = rw taken.take-block.ensures.block at c.cholesky.ensures
-
-  block_room : length block ≡ kept_size start.args.n_cols + length b * length b
-  block_room = taken.take-block.kept.0 ∙ room.long
-
-  -- the workspace afterwards
+  -- the workspace with what Cholesky left of the block
   abbrev after : List Float
-  after = with_part (kept_size start.args.n_cols) (kept_size start.args.n_cols + length b * length b) left block
+  after = with_part (kept_size c.args.n_cols) (kept_size c.args.n_cols + length c.args.b.now * length c.args.b.now) c.cholesky.new.a c.take_block.new.ws
 
-  kept : take (kept_size start.args.n_cols) after ≡ take (kept_size start.args.n_cols) start.args.ws.now
-  kept = left_kept block left block_room c.cholesky.auto.a taken.take-block.ensures
+  kept : take (kept_size c.args.n_cols) after ≡ take (kept_size c.args.n_cols) c.args.ws.now
+  kept = left_kept _ _ block_room c.cholesky.auto.a c.take_block.ensures
 
-  after-room : Room start.args.n_cols (length b) start.args.terms.now after
-  after-room = record { names = room.names; long = left_long block left block_room c.cholesky.auto.a taken.take-block.ensures ∙ block_room }
-
-pub take_block-requires-in_default : goal.take_block-requires-in_default
-unfolding with_part
-take_block-requires-in_default c =
-    after-room (goal.at.take_block-requires-in_default c).After-cholesky
+  after_long : length after ≡ kept_size c.args.n_cols + length c.args.b.now * length c.args.b.now
+  after_long = left_long _ _ block_room c.cholesky.auto.a c.take_block.ensures ∙ block_room
 
 pub returns-in_default : goal.returns-in_default
 unfolding with_part
 returns-in_default c =
-    let block2 = c.take_block-in_default.new.ws in
-    let second = anew (damping (goal.at.returns-in_default c).After-cholesky) (after (goal.at.returns-in_default c).After-cholesky) block2 (room (goal.at.returns-in_default c).After-cholesky) (kept (goal.at.returns-in_default c).After-cholesky) c.take_block-in_default.ensures in
+    let first = (goal.at.returns-in_default c).After-cholesky in
+    let second = anew (damps c.args.damping) (after first) c.take_block-in_default.new.ws c.requires (kept first) c.take_block-in_default.ensures in
     record {
-      values = normal_by_lu _ _ _ _ c.lu.result _ _ _ c.lu.new.a c.lu.new.b (by-cholesky (goal.at.returns-in_default c).After-cholesky) c.in_default.is
-          (rw second.block at c.lu.ensures);
-      kept = left_kept block2 c.lu.new.a (c.take_block-in_default.auto.ws ∙ (after-room (goal.at.returns-in_default c).After-cholesky).long) c.lu.auto.a second;
+      values = normal_by_lu _ _ _ _ c.lu.result _ _ _ c.lu.new.a c.lu.new.b (by_cholesky first) c.in_default.is (rw second.block at c.lu.ensures);
+      kept = left_kept _ c.lu.new.a (c.take_block-in_default.auto.ws ∙ after_long first) c.lu.auto.a second;
     }
 
 pub returns : goal.returns
 unfolding with_part
 returns c =
-    record { values = normal_goes _ _ _ _ _ _ (by-cholesky (goal.at.returns c).After-cholesky) c.in-Done.is; kept = kept (goal.at.returns c).After-cholesky }
+    let first = (goal.at.returns c).After-cholesky in
+    record { values = normal_goes _ _ _ _ _ _ (by_cholesky first) c.in-Done.is; kept = kept first }
