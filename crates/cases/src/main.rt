@@ -7,8 +7,8 @@ mod replay;
 // Longer than the list.
 const ROOM: usize = 327680;
 
-fn main() {
+fn main(rt: HostRuntime) {
     let mut room = [0u8; ROOM];
-    let n = list::read(&mut room);
-    replay::run(&room[..n]);
+    let n = list::read(&mut rt.stdin(), &mut room);
+    replay::run(&rt, &room[..n]);
 }

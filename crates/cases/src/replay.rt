@@ -6,7 +6,6 @@ ghost use Rattle.cases.specs.declared.replay.Entry.TheVariants.{Name, Exchange};
 ghost use Rattle.cases.specs.List.{head, EndsIn, Tallied};
 
 use hexdigits::inner::{all_hex, number_at, size};
-use libc::STDOUT_FILENO;
 
 // What stands at a place of the list: a name up to its end, an input and an answer up to theirs, or no entry.
 #[derive(Clone, Copy)]
@@ -67,7 +66,7 @@ fn alike(input: &[u8], wanted: &[u8]) -> bool
 {
     let mut answer = [0u8; frames::ANSWER];
     let k = frames::respond(input, &mut answer);
-    check::same(&answer[..k], wanted)
+    &answer[..k] == wanted
 }
 
 // Whether the input of an entry is answered so.
@@ -78,20 +77,16 @@ fn answered(list: &[u8], from: usize, mid: usize, end: usize) -> bool
 }
 
 // How many of so many exchanges were answered alike.
-fn say_tally(name: &[u8], alike: usize, all: usize) {
-    io::write_all(STDOUT_FILENO, name);
-    io::write_all(STDOUT_FILENO, b": ");
-    io::print_decimal(STDOUT_FILENO, alike as u64);
-    io::write_all(STDOUT_FILENO, b" of ");
-    io::print_decimal(STDOUT_FILENO, all as u64);
-    io::write_all(STDOUT_FILENO, b"\n");
+fn say_tally(rt: &impl Print, name: &[u8], alike: usize, all: usize) {
+    let _ = rt.write_all(name);
+    let _ = println!(rt; ": {alike} of {all}");
 }
 
 // The same, of a group by its name.
-fn say_group(list: &[u8], from: usize, end: usize, alike: usize, all: usize)
+fn say_group(rt: &impl Print, list: &[u8], from: usize, end: usize, alike: usize, all: usize)
     requires { EndsIn (Name end) from (length list.now) }
 {
-    say_tally(&list[from..end], alike, all);
+    say_tally(rt, &list[from..end], alike, all);
 }
 
 // Runs the exchanges from a place on, up to what is none.
@@ -125,7 +120,7 @@ fn group(list: &[u8], from: usize) -> Tally
 }
 
 // Runs the list group by group, and prints a line each.
-fn groups(list: &[u8]) -> Tally {
+fn groups(rt: &impl Print, list: &[u8]) -> Tally {
     let mut at = 0;
     let mut same = 0;
     let mut all = 0;
@@ -138,7 +133,7 @@ fn groups(list: &[u8]) -> Tally {
             };
         };
         let t = group(list, end);
-        say_group(list, at + HEAD, end, t.alike, t.all);
+        say_group(rt, list, at + HEAD, end, t.alike, t.all);
         at = t.end;
         same += t.alike;
         all += t.all;
@@ -151,7 +146,7 @@ fn groups(list: &[u8]) -> Tally {
 }
 
 // Runs the list, and prints the total.
-pub fn run(list: &[u8]) {
-    let t = groups(list);
-    say_tally(b"exchanges answered alike", t.alike, t.all);
+pub fn run(rt: &impl Print, list: &[u8]) {
+    let t = groups(rt, list);
+    say_tally(rt, b"exchanges answered alike", t.alike, t.all);
 }

@@ -4,15 +4,14 @@
 use exchange::inner::INPUT;
 use frames::ANSWER;
 use input::inner::{Input, read_input};
-use libc::STDOUT_FILENO;
 
 // A read that fails ends the program with nothing written; so does a closed output.
-fn main() {
+fn main(rt: HostRuntime) {
     let mut room = [0u8; INPUT];
-    let Input::Whole(n) = read_input(&mut room) else {
+    let Input::Whole(n) = read_input(&mut rt.stdin(), &mut room) else {
         return;
     };
     let mut answer = [0u8; ANSWER];
     let k = frames::respond(&room[..n], &mut answer);
-    io::write_all(STDOUT_FILENO, &answer[..k]);
+    let _ = rt.write_all(&answer[..k]);
 }

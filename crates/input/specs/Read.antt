@@ -1,17 +1,17 @@
 -- What was read of the input. Which bytes came, no contract can say. Assumes nothing.
-use Rattle.std.specs.Prelude.{ℕ, zero, suc, ◌+◌, ◌≤◌, ◌<◌, ◌≡◌, List, ℤ, pos, negsuc}
+use Rattle.std.specs.Prelude.{ℕ, zero, suc, ◌+◌, ◌≤◌, ◌<◌, ◌≡◌, List, Result, Ok, Err}
 use Rattle.std.proofs.Common.{subst}
-use Rattle.io.specs.Counts.{IsPrefixLen}
+use Rattle.std.specs.Counts.{IsPrefixLen}
 use Rattle.input.specs.declared.inner.Input.{Input}
 use Rattle.input.specs.declared.inner.Input.TheVariants.{Whole, Failed}
 use Rattle.input.specs.declared.inner.Next.{Next}
 use Rattle.input.specs.declared.inner.Next.TheVariants as N
 
--- after n bytes a read answered: below zero it failed, 0 is the input's end, else so many more came
-abbrev pub after_read : ℕ → ℤ → Next
-after_read n (negsuc k) = N.Failed
-after_read n (pos zero) = N.Ended
-after_read n (pos (suc k)) = N.More (n + suc k)
+-- after n bytes a read answered: an error is that it failed, 0 is the input's end, else so many more came
+abbrev pub after_read : {E : Type 0} → ℕ → Result ℕ E → Next
+after_read n (Err e) = N.Failed
+after_read n (Ok zero) = N.Ended
+after_read n (Ok (suc k)) = N.More (n + suc k)
 
 -- more bytes than n, if any came, and no more than a room of m has
 abbrev pub Behind : Next → ℕ → ℕ → Type 0

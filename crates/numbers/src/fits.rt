@@ -116,34 +116,38 @@ fn refused(solver: Solver, n_cols: usize, max_iter: usize, room: usize) -> u64
 }
 
 // The sizes: what the fits take, and one more. 64 columns need 12,416 numbers at any row count, by QR 8,707 of one row.
-fn sizes() {
+fn sizes(rt: &impl Print) {
     let normal = passes(Solver::Normal, 12416) && passes(Solver::Marquardt, 12416);
     say(
+        rt,
         b"64 columns, max_iter 1,000",
         normal && passes(Solver::Qr, 8707),
     );
     let normal = refused(Solver::Normal, 65, 1000, 12805) == 1
         && refused(Solver::Marquardt, 65, 1000, 12805) == 1;
     say(
+        rt,
         b"65 columns",
         normal && refused(Solver::Qr, 65, 1000, 8973) == 1,
     );
     let normal = refused(Solver::Normal, 64, 1001, 12416) == 3
         && refused(Solver::Marquardt, 64, 1001, 12416) == 3;
     say(
+        rt,
         b"max_iter 1,001",
         normal && refused(Solver::Qr, 64, 1001, 8707) == 3,
     );
     let normal = refused(Solver::Normal, 64, 1000, 12415) == 7
         && refused(Solver::Marquardt, 64, 1000, 12415) == 7;
     say(
+        rt,
         b"a workspace one short",
         normal && refused(Solver::Qr, 64, 1000, 8706) == 7,
     );
 }
 
-pub fn run() {
-    say(b"F8, max_iter 0", f8(0, 5, NAN));
-    say(b"F8, max_iter 1", f8(1, 2, 0));
-    sizes();
+pub fn run(rt: &impl Print) {
+    say(rt, b"F8, max_iter 0", f8(0, 5, NAN));
+    say(rt, b"F8, max_iter 1", f8(1, 2, 0));
+    sizes(rt);
 }

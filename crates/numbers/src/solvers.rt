@@ -27,14 +27,19 @@ fn qr_sums() -> bool {
     answer_number(answer) == 0 && bits(data[1]) == 0
 }
 
-pub fn run() {
-    say(b"C1", cholesky_of(1e-14) == 8);
+pub fn run(rt: &impl Print) {
+    say(rt, b"C1", cholesky_of(1e-14) == 8);
     say(
+        rt,
         b"C1, the next f64 up",
         cholesky_of(1.0000000000000002e-14) == 0,
     );
-    say(b"C2", lu_of(1e-15) == 0);
-    say(b"C2, the next f64 down", lu_of(9.999999999999999e-16) == 9);
-    say(b"Cholesky passes a NaN", cholesky_of(0.0 / 0.0) == 0);
-    say(b"sums of qr start at -0.0", qr_sums());
+    say(rt, b"C2", lu_of(1e-15) == 0);
+    say(
+        rt,
+        b"C2, the next f64 down",
+        lu_of(9.999999999999999e-16) == 9,
+    );
+    say(rt, b"Cholesky passes a NaN", cholesky_of(0.0 / 0.0) == 0);
+    say(rt, b"sums of qr start at -0.0", qr_sums());
 }

@@ -1,8 +1,5 @@
--- `read_whole` meets its contract. The loop's invariant: what came has room, and the room keeps its length; what is left of the room is the measure. Assumes nothing.
--- the bytes that the pattern binds
-use Prim.Native.Nat.{◌-◌, ◌≤◌}
-use mathlib.Core.Path.{◌≡◌}
-use lib.ListN.{length}
+-- The loop of `read_whole`: what came has room, and the room keeps its length; what is left of the room is the measure. Assumes nothing.
+use Rattle.std.proofs.Common.{◌≡◌, ◌-◌, ◌≤◌, length}
 use Rattle.input.proofs.inner.read_whole.Given as goal
 
 abbrev pub invariant-loop-n : goal.invariant-loop-n
