@@ -4,15 +4,6 @@ use Rattle.exchange.specs.Exchange.{theta_asked, target_asked}
 use Rattle.exchange.specs.Reading.{theta_room, all_formed}
 use Rattle.exchange.proofs.inner.read_rows.Goals as goal
 
-pub read_theta-requires : goal.read_theta-requires
-read_theta-requires c =
-    let ok = c.requires.0 in
-    (all_formed ok, omega (arith, theta_room ok.limited))
-
-pub read_target-requires : goal.read_target-requires
-read_target-requires c =
-    (all_formed c.requires.0, omega arith)
-
 pub returns : goal.returns
 unfolding theta_asked target_asked
 returns c =

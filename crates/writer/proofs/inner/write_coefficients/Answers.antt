@@ -10,9 +10,3 @@ loop-j-init c = lines_none _ _ _
 pub loop-j-preserved : goal.loop-j-preserved
 loop-j-preserved c =
     lines_next _ _ _ (omega arith) (omega arith) (omega arith) c.bits.ensures c.loop-j.invariant c.write_line-next.ensures
-
-pub shape_of-out : goal.shape_of-out
-shape_of-out c = c.loop-j.invariant.long
-
-pub returns : goal.returns
-returns c = lines_end _ _ _ (omega arith) c.loop-j.invariant
