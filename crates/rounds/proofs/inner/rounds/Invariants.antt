@@ -1,11 +1,5 @@
--- `rounds` meets its contract. The loop's invariant: after this many rounds, each of which refitted, the rule goes on with these coefficients and this last support,
+-- The loop's invariant: after this many rounds, each of which refitted, the rule goes on with these coefficients and this last support,
 -- the term that is watched was dropped where the rule says, and what the fit keeps in its workspace is there: it outlives each solve.
--- a turn of the loop
--- after its round
--- after the loop: the rounds are used up
-use mathlib.Core.Path.{◌≡◌}
-use Prim.Native.Nat.{◌-◌, ◌≤◌}
-use lib.ListN.{length}
 use Rattle.rule.specs.Fits.{problem_of}
 use Rattle.refit.specs.Parts.{Kept}
 use Rattle.rounds.proofs.Turns.{Going}
@@ -13,5 +7,4 @@ use Rattle.rounds.proofs.inner.rounds.Given as goal
 
 abbrev pub invariant-loop-refits : goal.invariant-loop-refits
 invariant-loop-refits l =
-    (l.refits-end ≡ l.task.setup.max_iter) × (l.refits ≤ l.refits-end) × (length l.coeffs ≡ length l.initial.coeffs) × (length l.ws ≡ length l.initial.ws)
-    × Going (problem_of l.task l.theta l.target) l.refits l.term_idx.0 l.drop l.coeffs l.last.0 × Kept l.task l.theta l.target l.ws
+    Going (problem_of l.task l.theta l.target) l.refits l.term_idx.0 l.drop l.coeffs l.last.0 × Kept l.task l.theta l.target l.ws
