@@ -1,7 +1,7 @@
 /*
  * dapmotar.h: the fitting core of a calibration bench, from C and C++.
  *
- * The library is target/staticlib/libcapi.a, made by `rt staticlib capi` at the top of the repository.
+ * The library is target/staticlib/libcapi.a, made by `tools/staticlib` at the top of the repository.
  * docs/REFERENCE.md is the reference of what each call does.
  *
  * Slices.      A slice is a pointer and its length in numbers. A null pointer with length 0 is an empty slice.

@@ -1,4 +1,4 @@
-//! Links the static library: `DAPMOTAR_LIB`, or where `rt staticlib capi` (x86-64) and `tools/native-staticlib` (elsewhere) write it;
+//! Links the static library: `DAPMOTAR_LIB`, or where `tools/staticlib` (x86-64) and `tools/native-staticlib` (elsewhere) write it;
 //! a relative path is seen from the repository's top.
 
 use std::env;
@@ -16,7 +16,7 @@ fn main() {
         .nth(2)
         .expect("bindings/rust stands in the repository");
     let (usual, maker) = match env::var("CARGO_CFG_TARGET_ARCH").as_deref() {
-        Ok("x86_64") => ("target/staticlib/libcapi.a", "rt staticlib capi"),
+        Ok("x86_64") => ("target/staticlib/libcapi.a", "tools/staticlib"),
         _ => ("target/native/libcapi.a", "tools/native-staticlib"),
     };
     let given = env::var_os("DAPMOTAR_LIB").unwrap_or_else(|| usual.into());

@@ -2,7 +2,7 @@
  * Fits three readings of two channels that stand one after another, and says why the second was dropped. At the
  * repository's top:
  *
- *     rt staticlib capi
+ *     tools/staticlib
  *     cc -std=c99 -Wall -Iinclude -o target/channels examples/c/channels.c target/staticlib/libcapi.a
  *     target/channels
  *

@@ -1,7 +1,7 @@
 /*
  * Fits two ports against a reference and prints the report and the coefficients. At the repository's top:
  *
- *     rt staticlib capi
+ *     tools/staticlib
  *     cc -std=c99 -Wall -Iinclude -o target/f1 examples/c/f1.c target/staticlib/libcapi.a
  *     target/f1
  *
