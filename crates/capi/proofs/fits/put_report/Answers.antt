@@ -2,6 +2,4 @@
 use Rattle.capi.proofs.fits.put_report.Goals as goal
 
 pub returns-in-Fit : goal.returns-in-Fit
-returns-in-Fit c =
-    let fit = c.answer-1 in
-    (rw (fit.given.1, c.stop_code.ensures, c.stop_term.ensures), rw fit.given.1)
+returns-in-Fit c = (rw (c.in-Fit.is, c.stop_code.ensures, c.stop_term.ensures), rw c.in-Fit.is)
