@@ -1,4 +1,6 @@
 // Replays the list of exchanges on standard input: inputs of the bench program, each with the answer of the published Rust.
+#![tactic(auto)]
+
 mod list;
 mod replay;
 

@@ -1,4 +1,6 @@
 // The bench program: reads standard input whole, and writes the answer to standard output.
+#![tactic(auto)]
+
 use exchange::inner::INPUT;
 use frames::ANSWER;
 use input::inner::{Input, read_input};

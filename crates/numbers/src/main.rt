@@ -1,4 +1,6 @@
 // Document 01's numbers that are not marked, run: the marked ones are a proved table (crate `table`).
+#![tactic(auto)]
+
 mod fits;
 mod solvers;
 

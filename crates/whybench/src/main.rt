@@ -1,4 +1,6 @@
 // The program that says why: reads an input of the bench program, and writes a line for each term to standard output.
+#![tactic(auto)]
+
 use causes::ANSWER;
 use exchange::inner::INPUT;
 use input::inner::{Input, read_input};
