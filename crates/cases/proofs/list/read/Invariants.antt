@@ -1,8 +1,5 @@
--- `list::read` meets its contract. The loop's invariant: what came has room, a room has at least a byte and at most 64, and the whole keeps its length. Assumes nothing.
--- the bytes that the pattern binds have room
-use Prim.Native.Nat.{◌≤◌, ◌<◌, ◌-◌}
-use mathlib.Core.Path.{◌≡◌}
-use lib.ListN.{length}
+-- The loop of `list::read`: what came has room, a room has at least a byte and at most 64, and the whole keeps its length; what is left of it is the measure. Assumes nothing.
+use Rattle.std.proofs.Common.{◌≡◌, ◌-◌, ◌≤◌, ◌<◌, length}
 use Rattle.cases.proofs.list.read.Given as goal
 
 abbrev pub invariant-loop-n : goal.invariant-loop-n

@@ -1,7 +1,5 @@
 -- `group`: the loop's invariant is that each exchange that was run takes some of the list, and that no more are alike than were run; what is left of the list is the measure. Assumes nothing.
--- where the entry of a turn stands
-use Prim.Native.Nat.{◌+◌, ◌-◌, ◌≤◌}
-use lib.ListN.{length}
+use Rattle.std.proofs.Common.{◌+◌, ◌-◌, ◌≤◌, length}
 use Rattle.cases.proofs.replay.group.Given as goal
 
 abbrev pub invariant-loop-at : goal.invariant-loop-at
