@@ -1,7 +1,11 @@
 # Sourced by the starters of the programs at the top of the repository, after `top` is set.
 # `start NAME` runs the program NAME, and first proves and builds it where it is missing or older than its sources. That takes minutes from nothing: a line a
 # crate tells on standard error how far it is, so that the answer on standard output stays clean. Status 2: it could not be built.
-. "$top/tools/run-x86.sh"
+
+# where `rt run` leaves the program NAME
+program_of() {
+    printf '%s\n' "$top/crates/$1/out/$1"
+}
 
 # the crates that NAME stands on, itself among them
 crates_of() {
@@ -17,34 +21,37 @@ crates_of() {
         }' "$top/crates.txt"
 }
 
+# `rt run` proves what has changed, from the lowest crate on, builds the program and runs it once, here on no input
 build() {
-    total=$(crates_of "$1") done=0
+    command -v rt >/dev/null || { echo "$1: no rt in PATH" >&2; return 2; }
+    total=$(crates_of "$1") done=0 crate=$1
     mkdir -p "$top/target/log"
     log=$top/target/log/$1.build
     : >"$log"
     echo "$1: proving and building it from its $total crates; from nothing this takes some minutes, once" >&2
-    { (cd "$top" && rt check "$1" </dev/null 2>&1) && echo built || echo failed; } | while IFS= read -r line; do
+    { (cd "$top/crates/$1" && rt run </dev/null 2>&1 >/dev/null) && echo built || echo failed; } | while IFS= read -r line; do
         case $line in
-        'rt: '*' proved ('*)
-            done=$((done + 1)) line=${line#rt: }
-            echo "$name: $done of $total: ${line%% proved*}" >&2
-            ;;
         built) exit 0 ;;
         failed)
             cat "$log" >&2
             echo "$name: the program could not be built" >&2
             exit 2
             ;;
-        *) printf '%s\n' "$line" >>"$log" ;;
+        'crate '*': modules '*) crate=${line#crate } crate=${crate%%:*} ;;
+        logic=proved*)
+            done=$((done + 1))
+            echo "$name: $done of at most $total: $crate proved" >&2
+            ;;
         esac
+        printf '%s\n' "$line" >>"$log"
     done
 }
 
 start() {
-    name=$1 program=$top/target/bin/$1
-    if [ ! -x "$program" ] || [ -n "$(find "$top/crates" "$top/crates.txt" -type f -newer "$program" | head -n 1)" ]; then
+    name=$1 program=$(program_of "$1")
+    if [ ! -x "$program" ] || [ -n "$(find "$top/crates" "$top/crates.txt" -name out -prune -o -type f -newer "$program" -print | head -n 1)" ]; then
         build "$name" || exit 2
         touch "$program"
     fi
-    run_x86 "$program"
+    "$program"
 }
