@@ -1,3 +1,2 @@
 -- The leftover error of a fit. Assumes nothing.
 pub mod Error
-pub mod Laws

@@ -6,7 +6,7 @@ use Rattle.std.specs.Float.Ieee.{fits}
 use Rattle.steps.specs.Num.{less, +zero, Entry}
 use Rattle.steps.specs.Sums.{sum}
 use Rattle.leftover.specs.Error.{square, squares, squared_error}
-use Rattle.leftover.specs.Laws.{without_rows, none_kept}
+use Rattle.leftover.proofs.Laws.{without_rows, none_kept}
 use Rattle.rule.specs.Rule.{Problem, reported, Fit, fit}
 use Rattle.rule.specs.Course.{of_report}
 use Rattle.rule.specs.Fits.{problem, problem_by, fit_by}

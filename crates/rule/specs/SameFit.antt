@@ -13,7 +13,7 @@ use Rattle.support.specs.WordLaws.{word_lt}
 use Rattle.support.specs.TermLaws.{term_below}
 use Rattle.refusal.specs.Answers.{Solution, solved, refused}
 use Rattle.places.specs.Columns.{columns}
-use Rattle.leftover.specs.Laws.{error_cong}
+use Rattle.leftover.proofs.Laws.{error_cong}
 use Rattle.rule.specs.declared.Task.{Task}
 use Rattle.rule.specs.declared.Stop.{Stop}
 use Rattle.rule.specs.declared.Stop.TheVariants.{NoData, Empty, Settled}

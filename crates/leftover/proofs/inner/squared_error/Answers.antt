@@ -1,7 +1,7 @@
 -- `squared_error` meets its contract: the kept terms are listed, and the rows walked.
 use native.Mathlib.Omega.{arith}
 use Rattle.places.specs.ColumnLaws.{listed_in}
-use Rattle.leftover.specs.Laws.{error_listed}
+use Rattle.leftover.proofs.Laws.{error_listed}
 use Rattle.leftover.proofs.inner.squared_error.Goals as goal
 
 pub walk_stored-requires : goal.walk_stored-requires
