@@ -7,9 +7,9 @@ use Rattle.steps.specs.Num.{at}
 use Rattle.refusal.specs.declared.Answer.TheVariants.{Done}
 use Rattle.rule.specs.Rule.{Problem, State, going, rounds, coeffs_of}
 use Rattle.rule.specs.Fits.{matrix_of}
-use Rattle.rule.specs.Stable.{refits_few, refits_counted}
+use Rattle.rule.proofs.Stable.{refits_few, refits_counted}
 use Rattle.rule.specs.Rounded.{Rounded, in_format}
-use Rattle.rule.specs.Promises.{looked_made}
+use Rattle.rule.proofs.Promises.{looked_made}
 use Rattle.rule.specs.declared.Task.{Task}
 use Rattle.exchange.specs.Exchange.{theta_asked, target_asked}
 use Rattle.exchange.specs.Reading.{target_fits}

@@ -11,8 +11,8 @@ use Rattle.rule.specs.declared.Task.{Task}
 use Rattle.rule.specs.Rule.{Fit}
 use Rattle.rule.specs.Tasks.{laid}
 use Rattle.rule.specs.Fits.{problem, fit_by, fit_of}
-use Rattle.rule.specs.SameFit.{fit_entries}
-use Rattle.rule.specs.Layouts.{fit_stored}
+use Rattle.rule.proofs.SameFit.{fit_entries}
+use Rattle.rule.proofs.Layouts.{fit_stored}
 use Rattle.exchange.specs.Exchange.{matrix_asked, theta_asked, target_asked}
 
 -- the fit of an input's numbers

@@ -18,10 +18,11 @@ use Rattle.rule.specs.declared.Stop.{Stop}
 use Rattle.rule.specs.declared.Stop.TheVariants.{NoData, FirstRefused}
 use Rattle.rule.specs.declared.Drop.TheVariants.{Never}
 use Rattle.rule.specs.Rule.{Problem, going, done, zeros, scatter, first, start, rounds}
-use Rattle.rule.specs.Dropped.{dropped, dropped_stays}
+use Rattle.rule.specs.Dropped.{dropped}
+use Rattle.rule.proofs.Dropped.{dropped_stays}
 use Rattle.rule.specs.Fits.{problem, matrix_of, problem_of}
-use Rattle.rule.specs.Refuses.{columned}
-use Rattle.rule.specs.Stable.{stays}
+use Rattle.rule.proofs.Refuses.{columned}
+use Rattle.rule.proofs.Stable.{stays}
 use Rattle.rule.specs.Values.{one_a_column, solves_full, scatter_full}
 use Rattle.refit.specs.declared.inner.Spread.{Spread}
 use Rattle.refit.specs.declared.inner.Spread.TheVariants.{Done, Refused}

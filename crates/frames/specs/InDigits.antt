@@ -4,7 +4,7 @@ use Rattle.std.proofs.Math.Nat.{pow-le-pow_right, lt_of_le_of_lt, lt_of_lt_of_le
 use Rattle.std.proofs.Common.{arith, lit<}
 use Rattle.rule.specs.Codes.{stop_term}
 use Rattle.rule.specs.Refuses.{RefusedAt}
-use Rattle.rule.specs.Promises.{refits_at_most, kept_below, refused_term}
+use Rattle.rule.proofs.Promises.{refits_at_most, kept_below, refused_term}
 use Rattle.rule.specs.declared.Task.{Task}
 use Rattle.rule.specs.declared.Stop.{Stop}
 use Rattle.rule.specs.declared.Stop.TheVariants.{NoData, FirstRefused, Empty, RefitRefused, Settled, OutOfRounds}

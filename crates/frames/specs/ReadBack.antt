@@ -10,8 +10,8 @@ use Rattle.hexdigits.specs.ReadBack.{length_digits, number_in, float_back, float
 use Rattle.rule.specs.Rule.{Fit}
 use Rattle.rule.specs.Calls.{report_of}
 use Rattle.rule.specs.Codes.{stop_code, stop_term}
-use Rattle.rule.specs.Promises.{coefficients_fit}
-use Rattle.rule.specs.Errors.{error_fits}
+use Rattle.rule.proofs.Promises.{coefficients_fit}
+use Rattle.rule.proofs.Errors.{error_fits}
 use Rattle.rule.specs.declared.Task.{Task}
 use Rattle.rule.specs.declared.Stop.{Stop}
 use Rattle.rule.specs.declared.Stop.TheVariants.{NoData, FirstRefused, Empty, RefitRefused, Settled, OutOfRounds}

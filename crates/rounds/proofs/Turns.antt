@@ -12,8 +12,9 @@ use Rattle.rule.specs.declared.Stop.{Stop}
 use Rattle.rule.specs.declared.Stop.TheVariants as S
 use Rattle.rule.specs.declared.Drop.{Drop}
 use Rattle.rule.specs.Rule.{Problem, going, done, latest, support, round, rounds, reported, last_look, finish, fit, coeffs_of}
-use Rattle.rule.specs.Dropped.{drops, or_else, dropped, dropped_stays}
-use Rattle.rule.specs.Stable.{stays}
+use Rattle.rule.specs.Dropped.{drops, or_else, dropped}
+use Rattle.rule.proofs.Dropped.{dropped_stays}
+use Rattle.rule.proofs.Stable.{stays}
 use Rattle.rounds.specs.declared.inner.Turn.{Turn}
 use Rattle.rounds.specs.declared.inner.Turn.TheVariants as T
 use Rattle.rounds.specs.Turned.{turned, Turned}

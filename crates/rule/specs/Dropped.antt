@@ -5,7 +5,6 @@ use Rattle.std.proofs.Math.Decide.{le_ind}
 use Rattle.steps.specs.Num.{at}
 use Rattle.support.specs.Word.{has}
 use Rattle.rule.specs.Rule.{Problem, State, going, done, support, rounds}
-use Rattle.rule.specs.Stable.{stays}
 use Rattle.rule.specs.declared.Stop.{Stop}
 use Rattle.rule.specs.declared.Drop.{Drop}
 use Rattle.rule.specs.declared.Drop.TheVariants.{Never, Before}
@@ -24,15 +23,3 @@ or_else (Before r c) later = Before r c
 unfoldable pub dropped : Problem → ℕ → ℕ → Drop
 dropped P j zero = Never
 dropped P j (suc r) = or_else (dropped P j r) (drops P j (rounds P r))
-
--- ---- once a fit is done, nothing more is dropped
-
-or_never : (d : Drop) → or_else d Never ≡ d
-unfolding or_else
-or_never Never = refl
-or_never (Before r c) = refl
-
-pub dropped_stays : (P : Problem) (j : ℕ) {t : Stop} {cs : List Float} {ws : List ℕ} (r m : ℕ) → rounds P r ≡ done t cs ws → r ≤ m → dropped P j m ≡ dropped P j r
-unfolding dropped drops
-dropped_stays P j r m e h =
-    le_ind (λ k. dropped P j k ≡ dropped P j r) refl (λ k l i. ap (λ s. or_else (dropped P j k) (drops P j s)) (stays P r k e l) ∙ or_never (dropped P j k) ∙ i) m h

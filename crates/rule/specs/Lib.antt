@@ -13,15 +13,11 @@ pub mod Course
 pub mod LastLook
 pub mod Refuses
 pub mod Stable
-pub mod Shrinking
 pub mod Endings
 pub mod Rounded
 pub mod RightSides
 pub mod Values
 pub mod SameFit
 pub mod Layouts
-pub mod Made
-pub mod Errors
 pub mod Threshold
-pub mod Promises
 pub mod Demand3

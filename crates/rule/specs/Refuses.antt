@@ -1,4 +1,4 @@
--- Where a fit is refused: at a term of theta, and after a refit at one of the support that was refitted. Assumes nothing.
+-- Where a fit is refused: at a term of theta, and after a refit at one of the support that was refitted. The laws are those of proofs/Refuses. Assumes nothing.
 use Rattle.std.specs.Prelude.{◌≡◌, List, [], ◌∷◌, ℕ, ◌+◌, ◌^◌, ◌≤◌, ◌<◌, T, eqb, length, Float}
 use Rattle.std.proofs.Math.Path.{subst}
 use Rattle.std.proofs.Math.Nat.{pow-le-pow_right}
@@ -24,39 +24,11 @@ use Rattle.rule.specs.declared.Stop.TheVariants.{NoData, FirstRefused, Empty, Re
 use Rattle.rule.specs.Rule.{Problem, State, latest, support, refit, first, rounds, reported, last_look, finish, fit, past, refitted}
 use Rattle.rule.specs.Rule as R
 use Rattle.rule.specs.Fits.{by_sums, by_normal, by_least, solves, problem, problem_by}
-use Rattle.rule.specs.Course.{Course, after_rounds}
-
--- the normal equations refuse, if at all, at one of their columns, however they are damped
-by_normal_within : (damp : Float → Float) (t : ℕ → Float) (rows c : ℕ) (e : Entry) → Within c (by_normal damp t rows c e)
-unfolding by_normal by_sums
-by_normal_within damp t rows c e =
-    let a = jtj_matrix damp c (gram e rows) in
-    let b = jtr_column c (moment e t rows) in
-    go (normal c a b) (normal_refuses c a b)
-  where
-    go : (w : Way (List Float)) → StopsBelow c w → Within c (solution w)
-    go (going x) p = tt
-    go (stopped k x) p = p
-
--- and so does each solver
-pub solves_refuse : (solver : Solver) (lambda : Float) (t : ℕ → Float) (rows c : ℕ) (e : Entry) → Within c (solves solver lambda t rows c e)
-unfolding solves by_least
-solves_refuse Normal lambda t rows c e = by_normal_within (ridge lambda) t rows c e
-solves_refuse Qr lambda t rows c e = least_refuses (rows + c) c _ _
-solves_refuse Marquardt lambda t rows c e = by_normal_within (marquardt lambda) t rows c e
 
 -- a problem whose solves do so
 pub record Columned (P : Problem) : Type 0 where
   pub first_solve : Within P.cols P.whole
   pub refits : (w : ℕ) → Within (ones w) (P.solve w)
-
--- that of a fit does
-pub columned : (task : Task) (e : Entry) (t : ℕ → Float) → Columned (problem_by task e t)
-unfolding problem
-columned task e t = record {
-  first_solve = solves_refuse task.solver task.setup.lambda t task.rows task.cols e;
-  refits = λ w. solves_refuse task.solver task.setup.lambda t task.rows (ones w) (columns task.cols w e);
-}
 
 -- a term of theta's n that is in the support w
 pub record InSupport (w n t : ℕ) : Type 0 where
@@ -71,43 +43,3 @@ RefusedAt n Empty ws = Unit {0}
 RefusedAt n (RefitRefused t) ws = InSupport (latest ws) n t.0
 RefusedAt n Settled ws = Unit {0}
 RefusedAt n OutOfRounds ws = Unit {0}
-
-module _ (P : Problem) (columned : Columned P) (few : P.cols ≤ 64) where
-  -- of a state: nothing while the fit goes on
-  At : State → Type 0
-  At (R.going cs ws) = Unit {0}
-  At (R.done t cs ws) = RefusedAt P.cols t ws
-
-  -- the term of a refused column is in the support, whose columns these are
-  at_term : (cs : List Float) (c : ℕ) → P.solve (support P cs) ≡ refused c → InSupport (support P cs) P.cols (term_at (support P cs) c)
-  unfolding support
-  at_term cs c q =
-      let w = support P cs in
-      let fits : w < 2 ^ P.cols = word_lt _ P.cols in
-      let member = term_at_is w c (lt_of_lt_of_le fits (pow-le-pow_right {n = 2} (lit< tt) few)) (subst (Within (ones w)) q (columned.refits w)) in
-      record { in_it = member.in_it; below = has_lt w P.cols _ fits member.in_it }
-
-  -- and so all along
-  refusing : Course P (λ r s. At s)
-  unfolding At first refit
-  refusing = record {
-    nothing = λ e. tt;
-    refused_first = λ e c q. subst (Within P.cols) q columned.first_solve;
-    begins = λ e vs q. tt;
-    rests = λ r t cs ws i. i;
-    empties = λ r cs ws i. tt;
-    settles = λ r cs ws i z e. tt;
-    refused_later = λ r cs ws i z l c q. at_term cs c q;
-    refits = λ r cs ws i z l vs q. tt;
-  }
-
-  -- so of the fit within a limit of rounds: the last look names no term
-  pub refused_at : (r : ℕ) → RefusedAt P.cols (fit P r).stop (refitted P r)
-  unfolding fit finish reported refitted At last_look
-  refused_at r = go (rounds P r) (after_rounds P refusing r)
-    where
-      go : (s : State) → At s → RefusedAt P.cols (finish P s).stop (past s)
-      go (R.going cs ws) i =
-          let N : Stop → Type 0 = λ t. RefusedAt P.cols t ws in
-          either N (eqb (length ws) 0) _ _ (λ e. tt) (λ e. either N (eqb (support P cs) (latest ws)) _ _ (λ q. tt) (λ q. tt))
-      go (R.done t cs ws) i = i

@@ -23,8 +23,8 @@ use Rattle.rule.specs.Rule.{reported, pruned, support}
 use Rattle.rule.specs.Fits.{keeps, clears, problem, fit_by, matrix_of, problem_of, fit_of}
 use Rattle.rule.specs.Sizes.{task_need, fit_sizes}
 use Rattle.rule.specs.Calls.{report_of, FitCall}
-use Rattle.rule.specs.Endings.{kept_is}
-use Rattle.rule.specs.Errors.{error_is}
+use Rattle.rule.proofs.Endings.{kept_is}
+use Rattle.rule.proofs.Errors.{error_is}
 use Rattle.rounds.specs.Ran.{CameTo}
 use Rattle.strlsq.specs.Ends.{Ends}
 

@@ -9,7 +9,8 @@ use Rattle.rule.specs.Tasks.{setup_of, task_of}
 use Rattle.rule.specs.Sizes.{fit_need, limits, lengths, fit_sizes}
 use Rattle.rule.specs.Calls.{FitCall}
 use Rattle.rule.specs.declared.Task.{Task}
-use Rattle.rule.specs.Demand3.{Few, refits_of, calls_stable, calls_bounded}
+use Rattle.rule.specs.Demand3.{Few, refits_of}
+use Rattle.rule.proofs.Demand3.{calls_stable, calls_bounded}
 use Rattle.rule.specs.declared.Solver.TheVariants.{Normal}
 use Rattle.rule.specs.declared.Stop.TheVariants.{Settled}
 use Rattle.rule.specs.declared.Report.{Report}

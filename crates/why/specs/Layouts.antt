@@ -12,9 +12,11 @@ use Rattle.rule.specs.Tasks.{laid}
 use Rattle.rule.specs.Rule.{Problem, State, going, done, support, rounds}
 use Rattle.rule.specs.Dropped.{drops, or_else, dropped}
 use Rattle.rule.specs.Fits.{problem, problem_by, matrix_of}
-use Rattle.rule.specs.SameFit.{resolved, same_rounds, same_fit, whole_agrees, solve_agrees, error_agrees}
+use Rattle.rule.specs.SameFit.{resolved}
+use Rattle.rule.proofs.SameFit.{same_rounds, same_fit, whole_agrees, solve_agrees, error_agrees}
 use Rattle.rule.specs.Sizes.{limits, lengths}
-use Rattle.rule.specs.Layouts.{theta_of, layouts_alike}
+use Rattle.rule.specs.Layouts.{theta_of}
+use Rattle.rule.proofs.Layouts.{layouts_alike}
 use Rattle.why.specs.declared.Caused.{Caused}
 use Rattle.why.specs.Cause.{cause, cause_of}
 use Rattle.why.specs.Sizes.{asks, why_sizes}

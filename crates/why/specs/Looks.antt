@@ -11,7 +11,7 @@ use Rattle.support.specs.Word.{has, Sub}
 use Rattle.support.specs.WordLaws.{has_beyond, passed, passes}
 use Rattle.refusal.specs.Answers.{Solution, solved, refused}
 use Rattle.rule.specs.Rule.{Problem, State, going, done, latest, support, refit, look, round, first, start, rounds, past, refitted}
-use Rattle.rule.specs.Shrinking.{scattered}
+use Rattle.rule.proofs.Shrinking.{scattered}
 use Rattle.rule.specs.Dropped.{drops, or_else, dropped}
 use Rattle.rule.specs.declared.Drop.{Drop}
 use Rattle.rule.specs.declared.Drop.TheVariants.{Never, Before}

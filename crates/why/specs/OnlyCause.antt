@@ -9,9 +9,10 @@ use Rattle.steps.specs.Num.{at}
 use Rattle.support.specs.Word.{has}
 use Rattle.rule.specs.Rule.{Problem, State, going, done, support, rounds, reported, finish, fit, past, refitted, coeffs_of}
 use Rattle.rule.specs.Dropped.{drops, or_else, dropped}
-use Rattle.rule.specs.Course.{of_report}
-use Rattle.rule.specs.Stable.{refits_counted}
-use Rattle.rule.specs.Endings.{Zeroed as LeavesZeros, unzeroed, ends_with_zeros}
+use Rattle.rule.proofs.Course.{of_report}
+use Rattle.rule.proofs.Stable.{refits_counted}
+use Rattle.rule.specs.Endings.{Zeroed as LeavesZeros}
+use Rattle.rule.proofs.Endings.{unzeroed, ends_with_zeros}
 use Rattle.rule.specs.declared.Stop.{Stop}
 use Rattle.rule.specs.declared.Stop.TheVariants as S
 use Rattle.rule.specs.declared.Drop.TheVariants.{Never, Before}

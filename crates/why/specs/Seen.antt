@@ -4,7 +4,7 @@ use Rattle.std.proofs.Common.{sym, ap, ◌∙◌, subst, append_assoc, arith}
 use Rattle.steps.specs.Num.{at}
 use Rattle.support.specs.Word.{has}
 use Rattle.rule.specs.Rule.{Problem, State, going, done, support, rounds, refitted, coeffs_of}
-use Rattle.rule.specs.Stable.{goes_counted}
+use Rattle.rule.proofs.Stable.{goes_counted}
 use Rattle.rule.specs.declared.Stop.TheVariants.{NoData, FirstRefused, Empty, RefitRefused, Settled, OutOfRounds}
 use Rattle.rule.specs.declared.Drop.{Drop}
 use Rattle.rule.specs.declared.Drop.TheVariants.{Never, Before}

@@ -10,7 +10,8 @@ use Rattle.steps.specs.Cond.{either}
 use Rattle.support.specs.Word.{has}
 use Rattle.rule.specs.Rule.{Problem, State, going, done, latest, support, rounds, reported, last_look, last_stop, finish, fit, past, refitted, coeffs_of}
 use Rattle.rule.specs.Dropped.{dropped}
-use Rattle.rule.specs.Endings.{Zeroed as LeavesZeros, unzeroed}
+use Rattle.rule.specs.Endings.{Zeroed as LeavesZeros}
+use Rattle.rule.proofs.Endings.{unzeroed}
 use Rattle.rule.specs.declared.Stop.{Stop}
 use Rattle.rule.specs.declared.Stop.TheVariants as S
 use Rattle.rule.specs.declared.Drop.{Drop}

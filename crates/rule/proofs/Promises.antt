@@ -1,4 +1,4 @@
--- What is promised of all three fits: each theorem holds for every solver, and was proved once over the problem. Assumes nothing.
+-- What is promised of all three fits: each theorem holds for every solver, and was proved once over the problem.
 use Rattle.std.specs.Prelude.{◌≡◌, ◌≢◌, ◌&&◌, List, ℕ, suc, ◌^◌, ◌≤◌, ◌<◌, ltb, Float}
 use Rattle.std.proofs.Common.{subst}
 use Rattle.std.specs.Int.Count.{ones}
@@ -16,14 +16,18 @@ use Rattle.rule.specs.declared.Stop.TheVariants.{Settled, OutOfRounds}
 use Rattle.rule.specs.Rule.{Problem, Fit, done, zeros, rounds, refitted, coeffs_of}
 use Rattle.rule.specs.Fits.{keeps, problem, problem_by, fit_by}
 use Rattle.rule.specs.Threshold.{zero_below, nan_below}
-use Rattle.rule.specs.LastLook.{SettlesNext, settled_next, settled_before}
-use Rattle.rule.specs.Refuses.{columned, RefusedAt, refused_at}
-use Rattle.rule.specs.Stable.{Steady, steady, Bounded, ZeroKept, refits_few}
-use Rattle.rule.specs.Shrinking.{bounded}
-use Rattle.rule.specs.Endings.{Zeroed, ends_with_zeros, no_nan, kept_lt, kept_rule}
+use Rattle.rule.specs.LastLook.{SettlesNext}
+use Rattle.rule.specs.Refuses.{RefusedAt}
+use Rattle.rule.specs.Stable.{Steady, Bounded, ZeroKept}
+use Rattle.rule.specs.Endings.{Zeroed}
 use Rattle.rule.specs.Rounded.{Rounded, in_format}
 use Rattle.rule.specs.Values.{solved_column}
-use Rattle.rule.specs.Made.{made_coeffs, made_rounds}
+use Rattle.rule.proofs.LastLook.{settled_next, settled_before}
+use Rattle.rule.proofs.Refuses.{columned, refused_at}
+use Rattle.rule.proofs.Stable.{steady, refits_few}
+use Rattle.rule.proofs.Shrinking.{bounded}
+use Rattle.rule.proofs.Endings.{ends_with_zeros, no_nan, kept_lt, kept_rule}
+use Rattle.rule.proofs.Made.{made_coeffs, made_rounds}
 
 -- of any task, matrix and target
 module _ (task : Task) (e : Entry) (t : ℕ → Float) where

@@ -1,4 +1,4 @@
--- What holds of +0.0 and of every value that a solve gives holds of every coefficient after each round, and of the fit. Once over the problem. Assumes nothing.
+-- What holds of +0.0 and of every value that a solve gives holds of every coefficient after each round, and of the fit. Once over the problem.
 use Rattle.std.specs.Prelude.{◌≡◌, List, ℕ, Float}
 use Rattle.steps.specs.Num.{+zero, at}
 use Rattle.steps.specs.Cond.{either}
@@ -6,8 +6,9 @@ use Rattle.steps.specs.Table.{tab_replicate}
 use Rattle.refusal.specs.Answers.{solved}
 use Rattle.support.specs.Word.{has, place}
 use Rattle.rule.specs.Rule.{Problem, State, going, done, zeros, support, scatter, refit, first, pruned, rounds, reported, fit, coeffs_of}
-use Rattle.rule.specs.Course.{Course, after_rounds, of_fit}
+use Rattle.rule.specs.Course.{Course}
 use Rattle.rule.specs.Rounded.{Rounded, tab_column}
+use Rattle.rule.proofs.Course.{after_rounds, of_fit}
 
 -- Q of each number of a list
 abbrev Each : (Float → Type 0) → List Float → Type 0

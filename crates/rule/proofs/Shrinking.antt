@@ -1,4 +1,4 @@
--- Demand 3 for a threshold above zero, once over the problem: each support is a strict subset of the one before, so there are few. Assumes nothing.
+-- Demand 3 for a threshold above zero, once over the problem: each support is a strict subset of the one before, so there are few.
 use Rattle.std.proofs.Common.{sym, ◌∙◌, arith}
 use Rattle.std.proofs.Math.Path.{subst}
 use Rattle.std.specs.Prelude.{◌≢◌, length}
@@ -14,8 +14,10 @@ use Rattle.support.specs.WordLaws.{word_lt, has_word, has_lt, word_has}
 use Rattle.support.specs.CountLaws.{count_le, count_pos}
 use Rattle.support.specs.SubsetLaws.{strict_count}
 use Rattle.rule.specs.Rule.{Problem, State, going, done, latest, support, scatter, refit, first, rounds, fit, past, refitted}
-use Rattle.rule.specs.Course.{Course, after_rounds}
-use Rattle.rule.specs.Stable.{Falling, Bounded, ZeroKept, refits_counted, refits_few, ran_out}
+use Rattle.rule.specs.Course.{Course}
+use Rattle.rule.specs.Stable.{Falling, Bounded, ZeroKept}
+use Rattle.rule.proofs.Course.{after_rounds}
+use Rattle.rule.proofs.Stable.{refits_counted, refits_few, ran_out}
 
 module _ (P : Problem) where
   -- the supports refitted: falling, the newest of the problem's terms, not empty, and with room for those before it

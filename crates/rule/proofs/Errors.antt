@@ -1,4 +1,4 @@
--- What is promised of the squared error in a report, for all three fits and every stop. Assumes nothing.
+-- What is promised of the squared error in a report, for all three fits and every stop.
 use Rattle.std.specs.Prelude.{◌≡◌, refl, ℕ, T, Float}
 use Rattle.std.proofs.Common.{ap, ◌∙◌}
 use Rattle.std.specs.Float.{binary64}
@@ -8,10 +8,10 @@ use Rattle.steps.specs.Sums.{sum}
 use Rattle.leftover.specs.Error.{square, squares, squared_error}
 use Rattle.leftover.proofs.Laws.{without_rows, none_kept}
 use Rattle.rule.specs.Rule.{Problem, reported, Fit, fit}
-use Rattle.rule.specs.Course.{of_report}
 use Rattle.rule.specs.Fits.{problem, problem_by, fit_by}
 use Rattle.rule.specs.Rounded.{Rounded, in_format, sum_made}
 use Rattle.rule.specs.declared.Task.{Task}
+use Rattle.rule.proofs.Course.{of_report}
 
 -- however a fit stopped, its error is that of the kept word and the final coefficients
 pub error_rule : (P : Problem) (r : ℕ) → (fit P r).error ≡ P.error (fit P r).kept (fit P r).coeffs
