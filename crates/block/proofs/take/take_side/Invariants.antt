@@ -1,10 +1,8 @@
--- `take_side` meets its contract. The loop's invariant: the places passed have the target products of their terms.
+-- The loop's invariant: the places passed have the target products of their terms.
 use mathlib.Core.Path.{◌≡◌}
-use Prim.Native.Nat.{◌-◌, ◌≤◌}
-use lib.ListN.{length}
 use Rattle.steps.specs.Table.{filled}
 use Rattle.block.specs.Listed.{listed_product}
 use Rattle.block.proofs.take.take_side.Given as goal
 
 abbrev pub invariant-loop-p : goal.invariant-loop-p
-invariant-loop-p l = (l.p ≤ l.k) × (length l.b ≡ length l.initial.b) × (l.b ≡ filled (listed_product l.n_cols l.terms l.ws) l.p l.initial.b)
+invariant-loop-p l = l.b ≡ filled (listed_product l.n_cols l.terms l.ws) l.p l.initial.b

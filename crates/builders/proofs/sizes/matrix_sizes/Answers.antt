@@ -1,6 +1,4 @@
 -- `matrix_sizes` meets its contract: the tests, one after the other.
-use native.Mathlib.Nat.{mul-le-mul}
-use native.Mathlib.Omega.{arith}
 use Rattle.refusal.specs.Ladder.{ladder}
 use Rattle.builders.specs.Calls.{matrix_sizes}
 use Rattle.builders.proofs.sizes.matrix_sizes.Goals as goal
@@ -12,9 +10,6 @@ returns-then-n_params-gt64 c = search ladder
 pub returns-then-n_rows-gt4096 : goal.returns-then-n_rows-gt4096
 unfolding matrix_sizes
 returns-then-n_rows-gt4096 c = search ladder
-
-pub overflow_mul-n_rows : goal.overflow_mul-n_rows
-overflow_mul-n_rows c = omega (arith, mul-le-mul c.if-n_rows-gt4096.false c.if-n_params-gt64.false)
 
 pub returns-then-matrix-n_rows : goal.returns-then-matrix-n_rows
 unfolding matrix_sizes

@@ -1,6 +1,4 @@
 -- `least_sizes` meets its contract: the tests, one after the other.
-use native.Mathlib.Nat.{mul-le-mul}
-use native.Mathlib.Omega.{arith}
 use Rattle.refusal.specs.Ladder.{ladder}
 use Rattle.solve.specs.Calls.{least_sizes}
 use Rattle.solve.proofs.sizes.least_sizes.Goals as goal
@@ -12,9 +10,6 @@ returns-then-n-gt64 c = search ladder
 pub returns-then-m-gt4160 : goal.returns-then-m-gt4160
 unfolding least_sizes
 returns-then-m-gt4160 c = search ladder
-
-pub overflow_mul-m : goal.overflow_mul-m
-overflow_mul-m c = omega (arith, mul-le-mul c.if-m-gt4160.false c.if-n-gt64.false)
 
 pub returns-then-matrix-m : goal.returns-then-matrix-m
 unfolding least_sizes

@@ -1,6 +1,4 @@
 -- `square_sizes` meets its contract: the tests, one after the other.
-use native.Mathlib.Nat.{mul-le-mul}
-use native.Mathlib.Omega.{arith}
 use Rattle.refusal.specs.Ladder.{ladder}
 use Rattle.solve.specs.Calls.{square_sizes}
 use Rattle.solve.proofs.sizes.square_sizes.Goals as goal
@@ -8,9 +6,6 @@ use Rattle.solve.proofs.sizes.square_sizes.Goals as goal
 pub returns-then-n-gt64 : goal.returns-then-n-gt64
 unfolding square_sizes
 returns-then-n-gt64 c = search ladder
-
-pub overflow_mul-n : goal.overflow_mul-n
-overflow_mul-n c = omega (arith, mul-le-mul c.if-n-gt64.false c.if-n-gt64.false)
 
 pub returns-then-matrix-n : goal.returns-then-matrix-n
 unfolding square_sizes
