@@ -1,4 +1,4 @@
-//! Links the static library: `DAPMOTAR_LIB`, or where `tools/staticlib` (x86-64) and `tools/native-staticlib` (elsewhere) write it;
+//! Links the static library: `DAPMOTAR_LIB`, or where `tools/staticlib` (x86-64) and `tools/native-staticlib` (aarch64) write it;
 //! a relative path is seen from the repository's top.
 
 use std::env;
