@@ -11,10 +11,10 @@ use Rattle.rule.specs.declared.Fitted.{Fitted}
 use Rattle.rule.specs.declared.Fitted.TheVariants.{Fit, Refused}
 
 -- r is the number of an answer that the call C allows
-pub record Numbered {A : Type 0} (number_of_lem : A → ℕ) (C : A → Type 0) (r : ℕ) : Type 0 where
+pub record Numbered {A : Type 0} (number_of : A → ℕ) (C : A → Type 0) (r : ℕ) : Type 0 where
   pub answer : A
   pub call : C answer
-  pub number : r ≡ number_of_lem answer
+  pub number : r ≡ number_of answer
 
 -- stop, refits, kept word and refused term after a fit; a refusal leaves the report unchanged
 abbrev pub report_numbers : Fitted → List ℕ → List ℕ

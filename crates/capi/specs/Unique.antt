@@ -37,7 +37,7 @@ pub export_abs_unique : (x r s : Float) → r ≡ abs_of x → s ≡ abs_of x �
 export_abs_unique = abs_unique
 
 -- once over the calls: equal answers have equal numbers
-numbered : {A : Type 0} {number_of_lem : A → ℕ} {C D : A → Type 0} {r s : ℕ} (p : Numbered number_of_lem C r) (q : Numbered number_of_lem D s) → p.answer ≡ q.answer → r ≡ s
+numbered : {A : Type 0} {number_of : A → ℕ} {C D : A → Type 0} {r s : ℕ} (p : Numbered number_of C r) (q : Numbered number_of D s) → p.answer ≡ q.answer → r ≡ s
 numbered p q same = cc
 
 module _ (jac : List Float) (rows n : ℕ) (out out' out'' : List Float) (r s : ℕ) where

@@ -1,7 +1,7 @@
 -- Reading no more than the program's room changes no answer. Assumes nothing.
 use Rattle.std.specs.Prelude.{◌≡◌, List, ℕ, take}
 use Rattle.exchange.specs.Limits.{input_room}
-use Rattle.exchange.specs.Cut.{cut_alike_by}
+use Rattle.exchange.proofs.Cut.{cut_alike_by}
 use Rattle.causes.specs.Exchange.{why_before, cause_lines_asked, causes_of}
 use Rattle.causes.specs.Cases.{before_limits}
 

@@ -14,7 +14,7 @@ use Rattle.reader.specs.declared.inner.header.Head.TheVariants.{Good}
 use Rattle.exchange.specs.Exchange.{matrix_asked, theta_asked, target_asked, answer_lines}
 use Rattle.exchange.specs.Layouts.{SameNumbers, targets_alike}
 use Rattle.why.specs.Cause.{cause}
-use Rattle.why.specs.Layouts.{cause_entries, cause_stored}
+use Rattle.why.proofs.Layouts.{cause_entries, cause_stored}
 use Rattle.why.specs.declared.Cause.{Cause}
 use Rattle.causes.specs.Lines.{cause_line, cause_lines}
 use Rattle.causes.specs.Exchange.{why_checked, cause_asked, causes_of}

@@ -6,7 +6,6 @@ pub mod Exchange
 pub mod Cases
 pub mod Promises
 pub mod Layouts
-pub mod InDigits
 pub mod ReadBack
 pub mod Unique
 pub mod Examples

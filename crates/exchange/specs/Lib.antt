@@ -5,5 +5,4 @@ pub mod Laws
 pub mod Reading
 pub mod Room
 pub mod Layouts
-pub mod Cut
 pub mod Text

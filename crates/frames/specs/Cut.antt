@@ -2,7 +2,7 @@
 use Rattle.std.specs.Prelude.{◌≡◌, List, ℕ, take}
 use Rattle.rule.specs.Sizes.{limits_hold}
 use Rattle.exchange.specs.Limits.{input_room}
-use Rattle.exchange.specs.Cut.{cut_alike_by}
+use Rattle.exchange.proofs.Cut.{cut_alike_by}
 use Rattle.frames.specs.Exchange.{before_rows, lines_asked, answer_of}
 
 -- the bytes beyond the room change no answer

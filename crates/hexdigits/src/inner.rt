@@ -1,6 +1,6 @@
 // Digits read and written; each function may require what its caller tested.
 ghost use Rattle.std.specs.Prelude.{◌≡◌, ◌+◌, ◌≤◌, ◌<◌, length};
-ghost use Rattle.hexdigits.specs.Hex.{value as value_of_lem, glyph as glyph-of, all_hex, number_at as number_of_lem, Digits, float as Float-at, digits, bits as bits_of, line};
+ghost use Rattle.hexdigits.specs.Hex.{value as value_of, glyph as glyph_of, all_hex, number_at as number_of, Digits, float as float_at, digits, bits as bits_of, line};
 ghost use Rattle.hexdigits.specs.Put.{Written};
 
 // A cast of a parameter asks nothing.
@@ -19,7 +19,7 @@ pub fn wide(x: usize) -> u64
 
 // A digit's value, and 16 for any other byte.
 fn value(b: u8) -> u64
-    ensures { result ≡ value_of_lem b }
+    ensures { result ≡ value_of b }
 {
     let x = b as u64;
     if x < 48 {
@@ -41,7 +41,7 @@ fn value(b: u8) -> u64
 // The digit of a value.
 fn glyph(d: u64) -> u8
     requires { d < 16 }
-    ensures { result ≡ glyph-of d }
+    ensures { result ≡ glyph_of d }
 {
     if d < 10 {
         return 48 + d as u8;
@@ -65,7 +65,7 @@ pub fn all_hex(s: &[u8], at: usize, n: usize) -> bool
 // The number that the n digits from `at` on write.
 pub fn number_at(s: &[u8], at: usize, n: usize) -> u64
     requires { Digits s.now at n × (n ≤ 16) }
-    ensures { result ≡ number_of_lem s.now at n }
+    ensures { result ≡ number_of s.now at n }
 {
     let mut w: u64 = 0;
     for i in 0..n {
@@ -77,7 +77,7 @@ pub fn number_at(s: &[u8], at: usize, n: usize) -> u64
 // The f64 whose bits the 16 digits from `at` on write.
 pub fn float(s: &[u8], at: usize) -> f64
     requires { Digits s.now at 16 }
-    ensures { result ≡ Float-at s.now at }
+    ensures { result ≡ float_at s.now at }
 {
     let bits = number_at(s, at, 16);
     if bits % 0x8000_0000_0000_0000 > 0x7ff0_0000_0000_0000 {

@@ -1,6 +1,6 @@
 // Four numbers of a row, and four by four of a matrix, held side by side.
 ghost use Rattle.std.specs.Prelude.{◌+◌, ◌*◌, ◌≤◌, length};
-ghost use Rattle.steps.specs.Num.{cell as cell-of};
+ghost use Rattle.steps.specs.Num.{cell as cell_of};
 ghost use Rattle.pairs.specs.Tiles.{FourOf, TileOf, Took, TileTook, PutFour, PutTile};
 
 use slices::inner::{cell, put};
@@ -24,7 +24,7 @@ pub struct Tile {
 // Four numbers of row i from column q on.
 pub fn four_at(s: &[f64], n: usize, i: usize, q: usize) -> Four
     requires { ((i + 1) * n ≤ length s.now) × (q + 4 ≤ n) }
-    ensures { FourOf (cell-of n s.now i) q result }
+    ensures { FourOf (cell_of n s.now i) q result }
 {
     Four {
         a: cell(s, n, i, q),
@@ -60,7 +60,7 @@ pub fn four_more(s: Four, x: f64, y: Four) -> Four
 // The numbers of the rows p to p + 3 and the columns q to q + 3.
 pub fn tile_at(s: &[f64], n: usize, p: usize, q: usize) -> Tile
     requires { ((p + 4) * n ≤ length s.now) × (p + 4 ≤ n) × (q + 4 ≤ n) }
-    ensures { TileOf (cell-of n s.now) p q result }
+    ensures { TileOf (cell_of n s.now) p q result }
 {
     Tile {
         a: four_at(s, n, p, q),

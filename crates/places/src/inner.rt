@@ -1,6 +1,6 @@
 // A table lists the term number of each reduced place. It is read and written at a reduced place only, and theta by a term number only.
 ghost use Rattle.std.specs.Prelude.{◌≡◌, ℕ, ◌+◌, ◌*◌, ◌^◌, ◌≤◌, ◌<◌, length, get_or, set};
-ghost use Rattle.steps.specs.Num.{cell as cell-of};
+ghost use Rattle.steps.specs.Num.{cell as cell_of};
 ghost use Rattle.steps.specs.Wrote.{Wrote};
 ghost use Rattle.places.specs.Columns.{Lists, Listed, listed};
 
@@ -42,7 +42,7 @@ pub fn term_of(terms: &[usize], col: Col) -> Term
 // Row i of the column that has this term number, of theta or of the sums of its columns.
 pub fn at_term(theta: &[f64], n_cols: usize, i: usize, term_idx: Term) -> f64
     requires { i * n_cols + term_idx.0 < length theta.now }
-    ensures { result ≡ cell-of n_cols theta.now i term_idx.0 }
+    ensures { result ≡ cell_of n_cols theta.now i term_idx.0 }
 {
     cell(theta, n_cols, i, term_idx.0)
 }
@@ -58,7 +58,7 @@ pub fn at_place(
     col: Col,
 ) -> f64
     requires { Listed n_rows n_cols k terms.now theta.now × (i < n_rows) × (col.0 < k) }
-    ensures { result ≡ listed terms.now (cell-of n_cols theta.now) i col.0 }
+    ensures { result ≡ listed terms.now (cell_of n_cols theta.now) i col.0 }
 {
     at_term(theta, n_cols, i, term_of(terms, col))
 }
@@ -74,7 +74,7 @@ pub fn page_rows(left: usize, most: usize) -> usize
 // Of theta by columns: row i of the column that has this term number.
 pub fn at_column(theta: &[f64], n_rows: usize, term_idx: Term, i: usize) -> f64
     requires { term_idx.0 * n_rows + i < length theta.now }
-    ensures { result ≡ cell-of n_rows theta.now term_idx.0 i }
+    ensures { result ≡ cell_of n_rows theta.now term_idx.0 i }
 {
     cell(theta, n_rows, term_idx.0, i)
 }
@@ -91,7 +91,7 @@ pub fn take_column(
     first: usize,
 )
     requires { (term_idx.0 * n_rows + i + h ≤ length theta.now) × (0 < width) × ((k : ℕ) → k < h → k * width + first < length page.old) }
-    ensures { Wrote (λ k. k * width + first) 0 h (λ k. cell-of n_rows theta.now term_idx.0 (i + k)) page.old page.new }
+    ensures { Wrote (λ k. k * width + first) 0 h (λ k. cell_of n_rows theta.now term_idx.0 (i + k)) page.old page.new }
 {
     for k in 0..h {
         let x = at_column(theta, n_rows, term_idx, i + k);

@@ -1,4 +1,4 @@
--- The fit rule, the three fits, and what is promised of them. Assumes nothing.
+-- The fit rule, the three fits, and what is promised of them (most of the theorems stand in proofs/). Assumes nothing.
 pub mod Codes
 pub mod Rule
 pub mod Tasks

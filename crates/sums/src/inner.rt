@@ -5,7 +5,7 @@ pub mod pages;
 pub mod walk;
 
 ghost use Rattle.std.specs.Prelude.{◌≡◌, ◌*◌, length};
-ghost use Rattle.steps.specs.Num.{at, cell as cell-of};
+ghost use Rattle.steps.specs.Num.{at, cell as cell_of};
 ghost use Rattle.steps.specs.Table.{table};
 ghost use Rattle.sums.specs.Products.{gram, moment, marquardt, jtj_matrix, jtr_column};
 ghost use Rattle.sums.specs.Inner.{Matrix, damps};
@@ -19,7 +19,7 @@ use slices::inner::{cell, clear, put};
 // jtj before it is damped: the pair sums of every two columns, in one walk over the rows.
 pub fn jtj_sums(theta: &[f64], n_rows: usize, n_cols: usize, out: &mut [f64])
     requires { Matrix n_rows n_cols (length theta.now) × (length out.old ≡ n_cols * n_cols) }
-    ensures { out.new ≡ table n_cols n_cols (gram (cell-of n_cols theta.now) n_rows) }
+    ensures { out.new ≡ table n_cols n_cols (gram (cell_of n_cols theta.now) n_rows) }
 {
     clear(out, n_cols * n_cols);
     add_rows(theta, n_rows, n_cols, out);
@@ -56,7 +56,7 @@ fn damped(damping: Damping, d: f64) -> f64
 // Each diagonal number of a finished matrix of k columns is damped once.
 pub fn damp(out: &mut [f64], k: usize, damping: Damping)
     requires { length out.old ≡ k * k }
-    ensures { out.new ≡ jtj_matrix (damps damping) k (cell-of k out.old) }
+    ensures { out.new ≡ jtj_matrix (damps damping) k (cell_of k out.old) }
 {
     for p in 0..k {
         let d = cell(out, k, p, p);
@@ -67,7 +67,7 @@ pub fn damp(out: &mut [f64], k: usize, damping: Damping)
 // jtr: the target products of every column.
 pub fn jtr_sums(theta: &[f64], target: &[f64], n_rows: usize, n_cols: usize, out: &mut [f64])
     requires { Matrix n_rows n_cols (length theta.now) × (length target.now ≡ n_rows) × (length out.old ≡ n_cols) }
-    ensures { out.new ≡ jtr_column n_cols (moment (cell-of n_cols theta.now) (at target.now) n_rows) }
+    ensures { out.new ≡ jtr_column n_cols (moment (cell_of n_cols theta.now) (at target.now) n_rows) }
 {
     clear(out, n_cols);
     take_targets(theta, n_cols, n_rows, target, 0, out);

@@ -3,7 +3,7 @@
 
 ghost use Rattle.std.specs.Prelude.{◌≡◌, eqb};
 ghost use Rattle.std.specs.Int.Count.{ones};
-ghost use Rattle.support.specs.Word.{has, place as place_of, alone as Alone-of, full as full-of, with_term, without_term, term_at};
+ghost use Rattle.support.specs.Word.{has, place as place_of, alone as alone_of, full as full_of, with_term, without_term, term_at};
 
 // A term number: it counts columns of theta.
 #[derive(Clone, Copy)]
@@ -26,7 +26,7 @@ fn wide(x: u32) -> usize
 
 // The word of the term alone: no bit where the term is 64 or more.
 fn alone(t: Term) -> u64
-    ensures { result ≡ Alone-of t.0 }
+    ensures { result ≡ alone_of t.0 }
 {
     if t.0 >= 64 {
         return 0;
@@ -44,7 +44,7 @@ impl Support {
 
     // The support of every term below n_cols: of all 64 where n_cols is more than 64.
     pub fn full(n_cols: usize) -> Support
-        ensures { result.0 ≡ full-of n_cols }
+        ensures { result.0 ≡ full_of n_cols }
     {
         if n_cols >= 64 {
             return Support(u64::MAX);

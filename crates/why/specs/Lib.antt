@@ -7,10 +7,4 @@ pub mod Unique
 pub mod Truth
 pub mod Sharp
 pub mod Seen
-pub mod Looks
-pub mod TrueCause
-pub mod OnlyCause
-pub mod Promises
-pub mod TrueCalls
-pub mod Layouts
 pub mod Examples

@@ -4,7 +4,7 @@ ghost use Rattle.steps.specs.Table.{tab, table};
 ghost use Rattle.hexdigits.specs.Hex.{Digits};
 ghost use Rattle.places.specs.Stored.{laid_out};
 ghost use Rattle.reader.specs.Frames.{frame_at, FewFrames, Formed};
-ghost use Rattle.reader.specs.Numbers.{frame_count, frame_digits, frame_number, target as target-of, feature, PartOf};
+ghost use Rattle.reader.specs.Numbers.{frame_count, frame_digits, frame_number, target as target_of, feature, PartOf};
 
 use crate::inner::frames::frame_at;
 use places::Layout;
@@ -73,7 +73,7 @@ pub fn read_theta(s: &[u8], layout: Layout, rows: usize, cols: usize, theta: &mu
 // Reads the target of each row.
 pub fn read_target(s: &[u8], layout: Layout, rows: usize, cols: usize, target: &mut [f64])
     requires { Formed s.now (frame_count layout rows cols) (frame_digits layout rows cols) × (rows ≤ length target.old) }
-    ensures { take rows target.new ≡ tab rows (target-of s.now layout rows cols) }
+    ensures { take rows target.new ≡ tab rows (target_of s.now layout rows cols) }
 {
     let width = frame_digits(layout, rows, cols);
     match layout {

@@ -19,8 +19,8 @@ use Rattle.why.specs.declared.Cause.TheVariants.{Kept}
 use Rattle.why.specs.Cause.{cause}
 use Rattle.why.specs.Truth.{Truly}
 use Rattle.why.specs.Sharp.{Sharp, contrary, nan_is}
-use Rattle.why.specs.TrueCause.{true_cause}
-use Rattle.why.specs.OnlyCause.{only_cause, kept_cause}
+use Rattle.why.proofs.TrueCause.{true_cause}
+use Rattle.why.proofs.OnlyCause.{only_cause, kept_cause}
 
 -- of any task, matrix and target, a threshold above zero, and a term
 module _ (task : Task) (e : Entry) (t : ℕ → Float) (above_zero : T (lt +zero task.setup.threshold)) (j : ℕ) (below : j < task.cols) where

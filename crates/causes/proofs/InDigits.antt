@@ -19,7 +19,8 @@ use Rattle.why.specs.declared.Cause.{Cause}
 use Rattle.why.specs.declared.Cause.TheVariants.{NoData, FirstRefused, Kept, Dropped, Cleared, Zeroed, LeftNan}
 use Rattle.causes.specs.Exchange.{why_checked, cause_asked}
 use Rattle.causes.specs.Cases.{why_was_accepted}
-use Rattle.causes.specs.Promises.{problem_asked, asked_true}
+use Rattle.causes.specs.Promises.{problem_asked}
+use Rattle.causes.proofs.Promises.{asked_true}
 
 -- the code in two digits
 pub code_within : (c : Cause) → cause_code c < 16 ^ 2

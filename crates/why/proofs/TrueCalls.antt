@@ -13,7 +13,7 @@ use Rattle.why.specs.Cause.{cause_of}
 use Rattle.why.specs.Truth.{Truly}
 use Rattle.why.specs.Sizes.{why_asked}
 use Rattle.why.specs.Calls.{explained, WhyCall}
-use Rattle.why.specs.Promises.{why_true, why_only}
+use Rattle.why.proofs.Promises.{why_true, why_only}
 
 -- a cause is answered only where nothing is refused
 because_done : (a : Answer) (c d : Cause) → C.Because c ≡ explained a d → (a ≡ Done) × (c ≡ d)

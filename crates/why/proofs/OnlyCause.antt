@@ -22,8 +22,8 @@ use Rattle.why.specs.Cause.{by_value, undropped, caused, cause}
 use Rattle.why.specs.Truth.{DroppedAt, LastAt, Truly}
 use Rattle.why.specs.Sharp.{Sharp, clash, finds, not_in_zeros, cleared_out, cleared_number, kept_found}
 use Rattle.why.specs.Seen.{Stayed}
-use Rattle.why.specs.Looks.{none_dropped, stayed}
-use Rattle.why.specs.TrueCause.{by_stop, true_cause}
+use Rattle.why.proofs.Looks.{none_dropped, stayed}
+use Rattle.why.proofs.TrueCause.{by_stop, true_cause}
 
 module _ {P : Problem} {j : ℕ} (sharp : Sharp P j) (limit : ℕ) where
   -- before the last pass

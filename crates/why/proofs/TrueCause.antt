@@ -20,7 +20,7 @@ use Rattle.why.specs.Cause.{by_value, undropped, caused, cause}
 use Rattle.why.specs.Truth.{InEach, LastAt, Truly}
 use Rattle.why.specs.Sharp.{Sharp, clash, nan_is, finds, kept_found}
 use Rattle.why.specs.Seen.{Seen}
-use Rattle.why.specs.Looks.{seen}
+use Rattle.why.proofs.Looks.{seen}
 
 -- a term of every refit is in the last one, if there was any
 in_latest : (j : ℕ) (ws : List ℕ) → length ws ≢ 0 → InEach j ws → has (latest ws) j ≡ true
