@@ -3,3 +3,4 @@ pub mod Telling
 pub mod Promises
 pub mod InDigits
 pub mod ReadBack
+pub mod Layouts

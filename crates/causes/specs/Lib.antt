@@ -5,7 +5,6 @@ pub mod Limits
 pub mod Exchange
 pub mod Cases
 pub mod Promises
-pub mod Layouts
 pub mod ReadBack
 pub mod Unique
 pub mod Examples
