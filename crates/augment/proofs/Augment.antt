@@ -1,20 +1,21 @@
 -- Theta's supported columns with the rows below them, and the target with zeros. Assumes nothing.
-use mathlib.Core.Path.{◌≡◌, refl, sym, ◌∙◌, subst}
+use mathlib.Core.Path.{◌≡◌, refl, sym, ap, ◌∙◌, subst}
 use mathlib.Core.Logic.{◌⊎◌, inl, inr, ⊎_elim}
 use mathlib.Core.Bool.{cond}
-use mathlib.Core.List.{List}
+use mathlib.Core.List.{List, ◌++◌}
 use Prim.Native.Nat.{ℕ, ◌+◌, ◌-◌, ◌*◌, ◌≤◌, ◌<◌}
-use native.Mathlib.Nat.{eq-or-lt_of_le, sub-zero, zero-add}
+use native.Mathlib.Nat.{eq-or-lt_of_le}
 use native.Mathlib.Omega.{arith}
 use lib.Count.{ones}
 use lib.Dec.{eqb}
-use lib.ListN.{length, replicate, length-replicate, get_or-replicate}
+use lib.ListN.{length, drop, replicate, length-append, length-drop, length-replicate, get_or-append, get_or-replicate}
+use lib.Seq.{get_or-drop, get_or-append-add}
 use lib.Ieee.{Float, nan}
 use borrow.Author.Tests.{lt-ltb, le-ltb}
 use Rattle.steps.specs.Num.{+zero, Entry, at, cell}
 use Rattle.steps.specs.Cond.{lt_or_ge}
 use Rattle.steps.specs.Table.{tab, is_tab, table, is_table}
-use Rattle.steps.specs.Space.{cleared, cleared_all, with_part, length_with, get_with, get_after}
+use Rattle.steps.specs.Space.{cleared, cleared_all}
 use Rattle.steps.specs.Wrote.{Wrote}
 use Rattle.steps.specs.Rows.{Rows, rows_apart}
 use Rattle.places.specs.Columns.{columns, Lists, listed}
@@ -55,28 +56,29 @@ module _ (rows n w k : ℕ) (root : Float) (e : Entry) (l : List ℕ) (s s₁ s�
   pub augmented_is : s₂ ≡ table (rows + k) k (augmented rows root (columns n w e))
   augmented_is = is_table (rows + k) k _ s₂ nan (low.long ∙ top.long ∙ len) (λ i c h g. entry i c h g (lt_or_ge i rows))
 
--- the target copied over zeros, as a part from 0 comes back
-pub padded_is : (k : ℕ) (t u b b' : List Float) → length b ≡ length t + k → u ≡ t → b' ≡ cleared (length t + k) b → with_part 0 (length t) u b' ≡ tab (length t + k) (padded (length t) (at t))
+-- the target copied over zeros
+pub padded_is : (k : ℕ) (t u b b' : List Float) → length b ≡ length t + k → u ≡ t → b' ≡ cleared (length t + k) b → u ++ drop (length t) b' ≡ tab (length t + k) (padded (length t) (at t))
 unfolding padded
 padded_is k t u b b' len is-u is_b =
     rw (is-u, is_b, cleared_all (length t + k) b len)
-    (is_tab (length t + k) _ (with_part 0 (length t) t zs) nan (length_with 0 (length t) t zs (omega arith) fits whole ∙ long) (λ i h. by i h (lt_or_ge i (length t))))
+    (is_tab (length t + k) _ (t ++ behind) nan (simp (length-append, length-drop) (omega (arith, long))) (λ i h. by i h (lt_or_ge i (length t))))
   where
     zs : List Float
     zs = replicate (length t + k) +zero
 
+    behind : List Float
+    behind = drop (length t) zs
+
     long : length zs ≡ length t + k
     long = length-replicate (length t + k) +zero
 
-    fits : length t ≤ length zs
-    fits = omega (arith, long)
-
-    whole : length t ≡ length t - 0
-    whole = sym (sub-zero (length t))
-
-    by : (i : ℕ) → i < length t + k → (i < length t) ⊎ (length t ≤ i) → at (with_part 0 (length t) t zs) i ≡ padded (length t) (at t) i
-    by i h (inl b) =
-        subst (λ (x : ℕ). at (with_part 0 (length t) t zs) x ≡ at t i) (zero-add i) (get_with 0 (length t) t zs i nan (omega arith) b)
-        ∙ sym (rw (lt-ltb i (length t) b))
+    by : (i : ℕ) → i < length t + k → (i < length t) ⊎ (length t ≤ i) → at (t ++ behind) i ≡ padded (length t) (at t) i
+    by i h (inl b) = get_or-append t behind nan i b ∙ sym (rw (lt-ltb i (length t) b))
     by i h (inr b) =
-        get_after 0 (length t) t zs i (omega arith) fits whole b ∙ get_or-replicate (length t + k) i +zero nan h ∙ sym (rw (le-ltb i (length t) b))
+        let e : length t + (i - length t) ≡ i = omega arith in
+        ap (at (t ++ behind)) (sym e)
+        ∙ get_or-append-add t behind (i - length t) nan
+        ∙ get_or-drop (length t) zs (i - length t) nan
+        ∙ ap (at zs) e
+        ∙ get_or-replicate (length t + k) i +zero nan h
+        ∙ sym (rw (le-ltb i (length t) b))

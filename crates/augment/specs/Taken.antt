@@ -1,6 +1,6 @@
 -- Some rows of a matrix are written a column after another. Assumes nothing.
 use Rattle.std.specs.Prelude.{◌≡◌, refl, ◌⊎◌, List, ℕ, ◌+◌, ◌-◌, ◌*◌, ◌≤◌, ◌<◌, length, Float}
-use Rattle.std.proofs.Common.{sym, ◌∙◌, subst, inl, inr, ⊎_elim, eq-or-lt_of_le, arith}
+use Rattle.std.proofs.Common.{◌∙◌, subst, inl, inr, ⊎_elim, eq-or-lt_of_le, arith}
 use Rattle.steps.specs.Num.{Entry, cell}
 use Rattle.steps.specs.Cond.{lt_or_ge}
 use Rattle.steps.specs.Rows.{Rows}

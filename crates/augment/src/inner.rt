@@ -1,22 +1,22 @@
 // Theta's supported columns with as many more rows below, and the target with zeros below it: what least squares solves for a refit.
 pub mod columns;
 
-ghost use Rattle.std.specs.Prelude.{◌≡◌, cond, ◌+◌, ◌*◌, ◌≤◌, ◌<◌, eqb, length, set};
+ghost use Rattle.std.specs.Prelude.{◌≡◌, cond, ◌+◌, ◌*◌, ◌^◌, ◌≤◌, ◌<◌, eqb, length, set};
 ghost use Rattle.std.specs.Int.Count.{ones};
-ghost use Rattle.steps.specs.Num.{+zero, at, cell};
+ghost use Rattle.steps.specs.Num.{+zero, at};
 ghost use Rattle.steps.specs.Rows.{Rows};
 ghost use Rattle.steps.specs.Table.{tab};
 ghost use Rattle.steps.specs.Wrote.{Wrote};
-ghost use Rattle.places.specs.Stored.{stored};
-ghost use Rattle.places.specs.Columns.{Within, Listed, listed};
+ghost use Rattle.places.specs.Theta.{entries, by_rows, reduced as reduced_entries};
+ghost use Rattle.places.specs.Columns.{listed};
 ghost use Rattle.rule.specs.Fits.{padded};
 ghost use Rattle.augment.specs.Ridged.{Ridged, qr_matrix};
 
 use crate::inner::columns::gather_columns;
 use float64::sqrt;
-use places::Layout;
-use places::inner::{at_place, list_terms};
-use slices::inner::{clear, copy, put};
+use places::inner::{at_place, kept_columns};
+use places::{Layout, Reduced, Theta};
+use slices::inner::{clear, put};
 use support::{Col, Support};
 
 // A number of the refit's matrix goes to a row and a reduced place, never to a term number.
@@ -28,58 +28,37 @@ fn put_at(s: &mut [f64], n_active: usize, i: usize, col: Col, x: f64)
 }
 
 // Row i of the refit: the supported numbers of row i of theta, each at its reduced place.
-fn take_row(
-    theta: &[f64],
-    n_rows: usize,
-    n_cols: usize,
-    terms: &[usize],
-    n_active: usize,
-    i: usize,
-    s: &mut [f64],
-)
-    requires { Listed n_rows n_cols n_active terms.now theta.now × (i < n_rows) × (i * n_active + n_active ≤ length s.old) }
-    ensures { Wrote (λ c. i * n_active + c) 0 n_active (listed terms.now (cell n_cols theta.now) i) s.old s.new }
+fn take_row(reduced: Reduced<'_>, i: usize, s: &mut [f64])
+    requires { (i < reduced.theta.rows) × (i * length reduced.terms.now + length reduced.terms.now ≤ length s.old) }
+    ensures { Wrote (λ c. i * length reduced.entry.terms.now + c) 0 (length reduced.entry.terms.now) (listed reduced.entry.terms.now (by_rows reduced.entry.theta) i) s.old s.new }
 {
+    let n_active = reduced.terms.len();
     for c in 0..n_active {
         let col = Col(c);
-        let x = at_place(theta, n_rows, n_cols, terms, n_active, i, col);
+        let x = at_place(reduced, i, col);
         put_at(s, n_active, i, col, x);
     }
 }
 
 // The rows of theta by rows, cut to the supported columns.
-fn gather_rows(
-    theta: &[f64],
-    n_rows: usize,
-    n_cols: usize,
-    terms: &[usize],
-    n_active: usize,
-    s: &mut [f64],
-)
-    requires { Listed n_rows n_cols n_active terms.now theta.now × (n_rows * n_active ≤ length s.old) }
-    ensures { Rows (n_rows + n_active) n_active (listed terms.now (cell n_cols theta.now)) s.old n_rows s.new }
+fn gather_rows(reduced: Reduced<'_>, s: &mut [f64])
+    requires { reduced.theta.rows * length reduced.terms.now ≤ length s.old }
+    ensures { Rows (reduced.entry.theta.rows + length reduced.entry.terms.now) (length reduced.entry.terms.now)
+        (listed reduced.entry.terms.now (by_rows reduced.entry.theta)) s.old reduced.entry.theta.rows s.new }
 {
-    for i in 0..n_rows {
-        take_row(theta, n_rows, n_cols, terms, n_active, i, s);
+    for i in 0..reduced.theta.rows {
+        take_row(reduced, i, s);
     }
 }
 
 // The rows of theta, as it is stored, cut to the supported columns.
-fn gather(
-    layout: Layout,
-    theta: &[f64],
-    n_rows: usize,
-    n_cols: usize,
-    terms: &[usize],
-    n_active: usize,
-    s: &mut [f64],
-)
-    requires { Listed n_rows n_cols n_active terms.now theta.now × (n_rows * n_active ≤ length s.old) }
-    ensures { Rows (n_rows + n_active) n_active (listed terms.now (stored layout n_rows n_cols theta.now)) s.old n_rows s.new }
+fn gather(reduced: Reduced<'_>, s: &mut [f64])
+    requires { reduced.theta.rows * length reduced.terms.now ≤ length s.old }
+    ensures { Rows (reduced.entry.theta.rows + length reduced.entry.terms.now) (length reduced.entry.terms.now) (reduced_entries reduced.entry) s.old reduced.entry.theta.rows s.new }
 {
-    match layout {
-        Layout::ByRows => gather_rows(theta, n_rows, n_cols, terms, n_active, s),
-        Layout::ByColumns => gather_columns(theta, n_rows, n_cols, terms, n_active, s),
+    match reduced.theta.layout {
+        Layout::ByRows => gather_rows(reduced, s),
+        Layout::ByColumns => gather_columns(reduced, s),
     }
 }
 
@@ -87,7 +66,7 @@ fn gather(
 fn ridge_entry(own: Col, col: Col, root: f64) -> f64
     ensures { result ≡ cond (eqb own.0 col.0) root +zero }
 {
-    if own.0 == col.0 { root } else { 0.0 }
+    if own == col { root } else { 0.0 }
 }
 
 fn ridge_row(i: usize, own: Col, n_active: usize, root: f64, s: &mut [f64])
@@ -112,48 +91,14 @@ fn add_ridge(n_rows: usize, n_active: usize, root: f64, s: &mut [f64])
 }
 
 // Theta's supported columns with the rows below.
-fn augment_with(
-    layout: Layout,
-    theta: &[f64],
-    n_rows: usize,
-    n_cols: usize,
-    support: Support,
-    lambda: f64,
-    s: &mut [f64],
-    terms: &mut [usize],
-)
-    requires { Within theta.now n_rows n_cols support.0 × (length terms.old ≡ n_cols) × (length s.old ≡ (n_rows + ones support.0) * ones support.0) }
-    ensures { s.new ≡ qr_matrix n_rows n_cols support.0 lambda (stored layout n_rows n_cols theta.now) }
+pub fn augment(theta: Theta<'_>, support: Support, lambda: f64, s: &mut [f64])
+    requires { (theta.rows ≤ 4096) × (support.0 < 2 ^ theta.cols) × (length s.old ≡ (theta.rows + ones support.0) * ones support.0) }
+    ensures { s.new ≡ qr_matrix theta.entry.rows theta.entry.cols support.0 lambda (entries theta.entry) }
 {
-    let n_active = support.count();
-    list_terms(support, n_cols, terms);
-    gather(layout, theta, n_rows, n_cols, terms, n_active, s);
-    add_ridge(n_rows, n_active, sqrt(lambda), s);
-}
-
-pub fn augment(
-    layout: Layout,
-    theta: &[f64],
-    n_rows: usize,
-    n_cols: usize,
-    support: Support,
-    lambda: f64,
-    s: &mut [f64],
-)
-    requires { Within theta.now n_rows n_cols support.0 × (length s.old ≡ (n_rows + ones support.0) * ones support.0) }
-    ensures { s.new ≡ qr_matrix n_rows n_cols support.0 lambda (stored layout n_rows n_cols theta.now) }
-{
-    let mut terms = [0usize; 64];
-    augment_with(
-        layout,
-        theta,
-        n_rows,
-        n_cols,
-        support,
-        lambda,
-        s,
-        &mut terms[0..n_cols],
-    );
+    let mut table = [0usize; 64];
+    let kept = kept_columns(theta, support, &mut table);
+    gather(kept, s);
+    add_ridge(theta.rows, kept.terms.len(), sqrt(lambda), s);
 }
 
 // The target with zeros below it.
@@ -164,5 +109,5 @@ pub fn pad(target: &[f64], n_active: usize, b: &mut [f64])
     let n_rows = target.len();
     let m = n_rows + n_active;
     clear(b, m);
-    copy(target, &mut b[0..n_rows]);
+    b[..n_rows].copy_from_slice(target);
 }

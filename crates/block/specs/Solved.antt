@@ -1,7 +1,6 @@
 -- What a solve from kept sums promises. Assumes nothing.
 use Rattle.std.specs.Prelude.{◌≡◌, List, ℕ, take, Float}
-use Rattle.refusal.specs.Answers.{told}
-use Rattle.refusal.specs.declared.Solved.{Solved}
+use Rattle.refusal.specs.Answers.{Solved, told}
 use Rattle.sums.specs.Kept.{kept_size}
 use Rattle.normal.specs.Normal.{normal}
 

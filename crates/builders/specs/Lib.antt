@@ -1,4 +1,4 @@
--- What `jtj`, `jtj_marquardt` and `jtr` promise. Assumes nothing.
+-- What `jtj` and `jtr` promise. Assumes nothing.
 pub mod Calls
 pub mod Sizes
 pub mod Unique

@@ -1,17 +1,15 @@
 -- What the sizes of a call tell that are not refused. Assumes nothing.
-use Rattle.std.specs.Prelude.{◌≡◌, not, ℕ, ◌*◌, ltb, eqb}
-use Rattle.std.proofs.Math.Path.{refl}
-use Rattle.std.proofs.Common.{sym, ◌∙◌}
-use borrow.Author.Tests.{ltb-false, eqb-true, not-false}
+use Rattle.std.specs.Prelude.{◌≡◌, refl, not, ℕ, ◌*◌, ltb, eqb, Ok}
+use Rattle.std.proofs.Common.{sym, ◌∙◌, ltb-false, eqb-true}
+use Rattle.std.proofs.lemmas.Bool.{not-false}
+use Rattle.refusal.specs.Answers.{Answer}
 use Rattle.refusal.specs.Ladder.{not_refused, both_done}
-use Rattle.refusal.specs.declared.Answer.{Answer}
-use Rattle.refusal.specs.declared.Answer.TheVariants.{Done}
 use Rattle.refusal.specs.declared.Refusal.TheVariants.{ManyColumns, ManyRows, MatrixLength, TargetLength, OutputLength}
 use Rattle.sums.specs.Inner.{Matrix}
 use Rattle.builders.specs.Calls.{matrix_sizes, jtj_sizes, jtr_sizes}
 
 module _ {rows n matrix : ℕ} {sizes : Answer} where
-  pub matrix_fits : sizes ≡ matrix_sizes rows n matrix → sizes ≡ Done → Matrix rows n matrix
+  pub matrix_fits : sizes ≡ matrix_sizes rows n matrix → sizes ≡ Ok tt → Matrix rows n matrix
   unfolding matrix_sizes
   matrix_fits judged e =
       let few = not_refused (ltb 64 n) ManyColumns _ (sym judged ∙ e) in
@@ -20,14 +18,14 @@ module _ {rows n matrix : ℕ} {sizes : Answer} where
       record { few_columns = ltb-false _ _ few.0; few_rows = ltb-false _ _ short.0; cells = eqb-true _ _ (not-false _ cells.0) }
 
 module _ {rows n matrix : ℕ} {sizes : Answer} where
-  pub jtj_fits : {out : ℕ} → sizes ≡ jtj_sizes rows n matrix out → sizes ≡ Done → Matrix rows n matrix × (out ≡ n * n)
+  pub jtj_fits : {out : ℕ} → sizes ≡ jtj_sizes rows n matrix out → sizes ≡ Ok tt → Matrix rows n matrix × (out ≡ n * n)
   unfolding jtj_sizes
   jtj_fits {out} judged e =
       let both = both_done (matrix_sizes rows n matrix) _ (sym judged ∙ e) in
       let square = not_refused (not (eqb out (n * n))) OutputLength _ both.1 in
       (matrix_fits refl both.0, eqb-true _ _ (not-false _ square.0))
 
-  pub jtr_fits : {target out : ℕ} → sizes ≡ jtr_sizes rows n matrix target out → sizes ≡ Done → Matrix rows n matrix × (target ≡ rows) × (out ≡ n)
+  pub jtr_fits : {target out : ℕ} → sizes ≡ jtr_sizes rows n matrix target out → sizes ≡ Ok tt → Matrix rows n matrix × (target ≡ rows) × (out ≡ n)
   unfolding jtr_sizes
   jtr_fits {target} {out} judged e =
       let both = both_done (matrix_sizes rows n matrix) _ (sym judged ∙ e) in

@@ -1,10 +1,9 @@
 -- Each export's contract determines its answer and every number that it leaves. Assumes nothing.
-use Rattle.std.specs.Prelude.{◌≡◌, List, ℕ, Float}
+use Rattle.std.specs.Prelude.{None, Some, ◌≡◌, List, ℕ, Float, Result, Option}
 use Rattle.float64.specs.Root.{abs_of}
 use Rattle.float64.specs.Rule.{SqrtCall}
 use Rattle.float64.specs.Unique.{sqrt_unique, abs_unique}
-use Rattle.refusal.specs.Answers.{answer_number}
-use Rattle.refusal.specs.declared.Answer.{Answer}
+use Rattle.refusal.specs.Answers.{answer_number, Answer}
 use Rattle.builders.specs.Calls.{JtjCall, JtrCall}
 use Rattle.builders.specs.Unique.{jtj_unique, jtr_unique}
 use Rattle.decomp.specs.Calls.{QrCall}
@@ -24,11 +23,11 @@ use Rattle.causes.specs.Unique.{respond_why_unique}
 use Rattle.rule.specs.declared.Setup.{Setup}
 use Rattle.why.specs.Codes.{caused_number}
 use Rattle.why.specs.Unique.{why_unique}
-use Rattle.why.specs.declared.Caused.{Caused}
+use Rattle.why.specs.declared.Cause.{Cause}
+use Rattle.refusal.specs.declared.Refusal.{Refusal}
 use Rattle.capi.specs.Numbered.{Numbered, Reported, WithColumn, workspace}
 use Rattle.capi.specs.Coded.{WhyCoded, Explained}
-use Rattle.rule.specs.declared.Coded.{Coded}
-use Rattle.rule.specs.declared.Coded.TheVariants.{By, Unknown}
+use Rattle.places.specs.declared.Layout.{Layout}
 
 pub export_sqrt_unique : (x r s : Float) → SqrtCall x r → SqrtCall x s → r ≡ s
 export_sqrt_unique = sqrt_unique
@@ -109,12 +108,12 @@ module _ (task : Task) (theta target cs w cs' w' cs'' w'' : List Float) (p p' p'
       (numbered h k answers, same.1, same.2, cc, cc)
 
 -- by any code: an unknown one leaves no choice either
-coded_unique : (k : Coded) (rows n : ℕ) (setup : Setup) (j : ℕ) (theta target cs w cs' w' cs'' w'' : List Float) (r s : Caused)
+coded_unique : (k : Option (Layout × Solver)) (rows n : ℕ) (setup : Setup) (j : ℕ) (theta target cs w cs' w' cs'' w'' : List Float) (r s : Result Cause Refusal)
     → WhyCoded k rows n setup j theta target cs cs' w w' r → WhyCoded k rows n setup j theta target cs cs'' w w'' s → (r ≡ s) × (cs' ≡ cs'') × (w' ≡ w'')
-coded_unique (By layout solver) rows n setup j theta target cs w cs' w' cs'' w'' r s p q = why_unique _ j theta target cs w cs' w' cs'' w'' r s p q
-coded_unique Unknown rows n setup j theta target cs w cs' w' cs'' w'' r s p q = (cc, cc, cc)
+coded_unique (Some (layout, solver)) rows n setup j theta target cs w cs' w' cs'' w'' r s p q = why_unique _ j theta target cs w cs' w' cs'' w'' r s p q
+coded_unique None rows n setup j theta target cs w cs' w' cs'' w'' r s p q = (cc, cc, cc)
 
-module _ (k : Coded) (rows n : ℕ) (setup : Setup) (j : ℕ) (theta target cs w cs' w' cs'' w'' : List Float) (p p' p'' : List ℕ) (v v' v'' : List Float) where
+module _ (k : Option (Layout × Solver)) (rows n : ℕ) (setup : Setup) (j : ℕ) (theta target cs w cs' w' cs'' w'' : List Float) (p p' p'' : List ℕ) (v v' v'' : List Float) where
   pub export_why_unique : (r s : ℕ)
       → Numbered caused_number (Explained (WhyCoded k rows n setup j theta target cs cs' w w') p p' v v') r
       → Numbered caused_number (Explained (WhyCoded k rows n setup j theta target cs cs'' w w'') p p'' v v'') s

@@ -4,8 +4,9 @@ ghost use Rattle.rule.specs.Tasks.{setup_of, task_of, by_columns};
 ghost use Rattle.rule.specs.Calls.{FitCall};
 ghost use Rattle.rule.specs.Codes.{fitted_number};
 
-use crate::fits::put_report;
-use rule::{Setup, Solver, fitted_number};
+use crate::fits::{asked, fit};
+use places::Layout;
+use rule::{Setup, Solver};
 
 // Sequential thresholded ridge regression, each solve by the normal equations.
 #[unsafe(no_mangle)]
@@ -27,13 +28,12 @@ pub extern "C" fn dapmotar_strlsq_by_columns(
         report.old report.new error.old error.new) result }
 {
     let setup = Setup {
-        threshold: threshold,
-        lambda: lambda,
-        max_iter: max_iter,
+        threshold,
+        lambda,
+        max_iter,
     };
-    let answer = strlsq::strlsq_by_columns(theta, n_rows, n_cols, target, setup, coeffs, workspace);
-    put_report(answer, report, error);
-    fitted_number(answer)
+    let task = asked(Layout::ByColumns, Solver::Normal, n_rows, n_cols, setup);
+    fit(task, theta, target, coeffs, workspace, report, error)
 }
 
 // The same, each solve by least squares.
@@ -56,15 +56,12 @@ pub extern "C" fn dapmotar_strlsq_qr_by_columns(
         report.old report.new error.old error.new) result }
 {
     let setup = Setup {
-        threshold: threshold,
-        lambda: lambda,
-        max_iter: max_iter,
+        threshold,
+        lambda,
+        max_iter,
     };
-    let answer = strlsq::strlsq_qr_by_columns(
-        theta, n_rows, n_cols, target, setup, coeffs, workspace,
-    );
-    put_report(answer, report, error);
-    fitted_number(answer)
+    let task = asked(Layout::ByColumns, Solver::Qr, n_rows, n_cols, setup);
+    fit(task, theta, target, coeffs, workspace, report, error)
 }
 
 // Each solve by the normal equations again, damped in proportion to their diagonal.
@@ -87,13 +84,10 @@ pub extern "C" fn dapmotar_strlsq_marquardt_by_columns(
         report.old report.new error.old error.new) result }
 {
     let setup = Setup {
-        threshold: threshold,
-        lambda: lambda,
-        max_iter: max_iter,
+        threshold,
+        lambda,
+        max_iter,
     };
-    let answer = strlsq::strlsq_marquardt_by_columns(
-        theta, n_rows, n_cols, target, setup, coeffs, workspace,
-    );
-    put_report(answer, report, error);
-    fitted_number(answer)
+    let task = asked(Layout::ByColumns, Solver::Marquardt, n_rows, n_cols, setup);
+    fit(task, theta, target, coeffs, workspace, report, error)
 }

@@ -6,17 +6,18 @@ ghost use Rattle.why.specs.Codes.{caused_number};
 ghost use Rattle.capi.specs.Numbered.{Numbered};
 ghost use Rattle.capi.specs.Coded.{cause_numbers, cause_values, WhyCoded, Explained};
 
-use refusal::Refusal;
-use rule::{Coded, Setup, Task, by_code};
+use crate::fits::asked;
+use places::Layout;
+use refusal::{Refusal, answer_number};
+use rule::{Setup, Solver, by_code};
 use support::Term;
-use why::inner::call::why_task;
-use why::{Caused, cause_code, cause_refit, cause_value, caused_number};
+use why::{Cause, cause_code, cause_refit, cause_value, why};
 
 // The code and the refit number of a cause into `cause`, its coefficient into `value`; a refusal leaves both unchanged.
-fn put_cause(answer: Caused, cause: &mut [u64; 2], value: &mut [f64; 1])
+fn put_cause(answer: Result<Cause, Refusal>, cause: &mut [u64; 2], value: &mut [f64; 1])
     ensures { (cause.new ≡ cause_numbers answer cause.old) × (value.new ≡ cause_values answer value.old) }
 {
-    if let Caused::Because(c) = answer {
+    if let Ok(c) = answer {
         *cause = [cause_code(c), cause_refit(c) as u64];
         *value = [cause_value(c)];
     }
@@ -24,7 +25,7 @@ fn put_cause(answer: Caused, cause: &mut [u64; 2], value: &mut [f64; 1])
 
 // The call by code: an unknown code is malformed, first of all.
 fn why_by(
-    code: Coded,
+    code: Option<(Layout, Solver)>,
     theta: &[f64],
     n_rows: usize,
     n_cols: usize,
@@ -33,23 +34,13 @@ fn why_by(
     term_idx: Term,
     coeffs: &mut [f64],
     workspace: &mut [f64],
-) -> Caused
+) -> Result<Cause, Refusal>
     ensures { WhyCoded code n_rows n_cols setup term_idx.0 theta.now target.now
         coeffs.old coeffs.new workspace.old workspace.new result }
 {
-    match code {
-        Coded::By(layout, solver) => {
-            let task = Task {
-                solver,
-                layout,
-                rows: n_rows,
-                cols: n_cols,
-                setup,
-            };
-            why_task(task, theta, target, term_idx, coeffs, workspace)
-        }
-        Coded::Unknown => Caused::Refused(Refusal::Malformed),
-    }
+    let (layout, solver) = code.ok_or(Refusal::Malformed)?;
+    let task = asked(layout, solver, n_rows, n_cols, setup);
+    why(task, theta, target, term_idx, coeffs, workspace)
 }
 
 // Why a term of a fit was kept or not, by a code as in the bench programs' header. `cause` is its code and refit number, `value` its coefficient; zeros where the cause has none.
@@ -73,9 +64,9 @@ pub extern "C" fn dapmotar_why(
         coeffs.old coeffs.new workspace.old workspace.new) cause.old cause.new value.old value.new) result }
 {
     let setup = Setup {
-        threshold: threshold,
-        lambda: lambda,
-        max_iter: max_iter,
+        threshold,
+        lambda,
+        max_iter,
     };
     let answer = why_by(
         by_code(code),
@@ -89,5 +80,5 @@ pub extern "C" fn dapmotar_why(
         workspace,
     );
     put_cause(answer, cause, value);
-    caused_number(answer)
+    answer_number(answer)
 }

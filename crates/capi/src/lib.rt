@@ -16,6 +16,7 @@ ghost use Rattle.exchange.specs.Exchange.{Exchanged};
 ghost use Rattle.frames.specs.Exchange.{Exchange};
 ghost use Rattle.refusal.specs.Answers.{answer_number};
 
+use builders::Damping;
 use refusal::answer_number;
 
 // double dapmotar_sqrt(double x): the square root, rounded once.
@@ -45,7 +46,7 @@ pub extern "C" fn dapmotar_jtj(
 ) -> u64
     ensures { Numbered answer_number (JtjCall (ridge lambda) jac.now n_rows n_params out.old out.new) result }
 {
-    answer_number(builders::jtj(jac, n_rows, n_params, lambda, out))
+    answer_number(builders::jtj(jac, n_rows, n_params, Damping::Ridge(lambda), out))
 }
 
 // The same sums, each diagonal number damped in proportion: by lambda times it, or by lambda alone where its magnitude is below 2^-52.
@@ -59,7 +60,7 @@ pub extern "C" fn dapmotar_jtj_marquardt(
 ) -> u64
     ensures { Numbered answer_number (JtjCall (marquardt lambda) jac.now n_rows n_params out.old out.new) result }
 {
-    answer_number(builders::jtj_marquardt(jac, n_rows, n_params, lambda, out))
+    answer_number(builders::jtj(jac, n_rows, n_params, Damping::Proportion(lambda), out))
 }
 
 // The products of each column of `jac` and the numbers `r`, summed over the rows.

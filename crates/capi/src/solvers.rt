@@ -5,13 +5,13 @@ ghost use Rattle.decomp.specs.Calls.{QrCall};
 ghost use Rattle.refusal.specs.Answers.{answer_number, answer_column};
 ghost use Rattle.solve.specs.Calls.{CholeskyCall, InvertCall, LeastCall, LuCall, NormalCall};
 
-use refusal::{Answer, Column, answer_column, answer_number};
+use refusal::{Answer, answer_column, answer_number};
 
 // The column at which a solver refused into `column`; any other answer leaves it unchanged.
 fn put_column(answer: Answer, column: &mut [u64; 1])
     ensures { column.new ≡ column_numbers (answer_column answer) column.old }
 {
-    if let Column::At(c) = answer_column(answer) {
+    if let Some(c) = answer_column(answer) {
         *column = [c as u64];
     }
 }

@@ -1,10 +1,9 @@
 -- The numbers of every line are within their digits. Assumes nothing.
-use Rattle.std.specs.Prelude.{◌≡◌, List, ℕ, ◌^◌, ◌≤◌, ◌<◌, T, Float}
+use Rattle.std.specs.Prelude.{Ok, ◌≡◌, List, ℕ, ◌^◌, ◌≤◌, ◌<◌, T, Float}
 use Rattle.std.proofs.Common.{sym, ap, ◌∙◌, subst, lt_of_le_of_lt, arith, lit<}
 use Rattle.std.specs.Float.{binary64}
 use Rattle.std.specs.Float.Ieee.{fits}
 use Rattle.steps.specs.Num.{at}
-use Rattle.refusal.specs.declared.Answer.TheVariants.{Done}
 use Rattle.rule.specs.Rule.{Problem, State, going, rounds, coeffs_of}
 use Rattle.rule.specs.Fits.{matrix_of}
 use Rattle.rule.proofs.Stable.{refits_few, refits_counted}
@@ -58,7 +57,7 @@ module _ (P : Problem) (limit j : ℕ) where
     value_made LeftNan t = made.nought
 
 -- of an accepted input, and one of its terms
-module _ (s : List ℕ) (task : Task) (ok : why_checked s task ≡ Done) (j : ℕ) (below : j < task.cols) where
+module _ (s : List ℕ) (task : Task) (ok : why_checked s task ≡ Ok tt) (j : ℕ) (below : j < task.cols) where
   -- the refit number is at most 1,000, in four digits
   pub refit_within : cause_refit (cause_asked s task j) < 16 ^ 4
   refit_within =

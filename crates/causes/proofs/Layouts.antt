@@ -1,16 +1,14 @@
 -- An input by rows and one by columns that say the same numbers have the same causes, and are answered alike. Assumes nothing.
-use Rattle.std.specs.Prelude.{◌≡◌, refl, ℕ, zero, suc, Float}
+use Rattle.std.specs.Prelude.{Ok, Some, ◌≡◌, refl, ℕ, zero, suc, Float}
 use Rattle.std.proofs.Math.Path.{sym, ap}
 use Rattle.std.proofs.Common.{ap₂, ◌∙◌}
 use mathlib.Core.List.{List, ◌++◌}
 use Rattle.steps.specs.Num.{at}
-use Rattle.refusal.specs.declared.Answer.TheVariants.{Done}
 use Rattle.places.specs.declared.Layout.{Layout}
 use Rattle.rule.specs.Fits.{problem, problem_by}
 use Rattle.rule.specs.Tasks.{laid}
 use Rattle.rule.specs.declared.Task.{Task}
 use Rattle.reader.specs.Header.{head_of}
-use Rattle.reader.specs.declared.inner.header.Head.TheVariants.{Good}
 use Rattle.exchange.specs.Exchange.{matrix_asked, theta_asked, target_asked, answer_lines}
 use Rattle.exchange.specs.Layouts.{SameNumbers, targets_alike}
 use Rattle.why.specs.Cause.{cause}
@@ -43,7 +41,7 @@ module _ (s t : List ℕ) (task : Task) (l m : Layout) (same : SameNumbers s t (
       ∙ sym (asked_entries t (laid m task) j)
 
   -- byte for byte, whichever way each stores theta
-  pub causes_answered_alike : head_of s ≡ Good (laid l task) → head_of t ≡ Good (laid m task) → why_checked s (laid l task) ≡ Done → why_checked t (laid m task) ≡ Done → causes_of s ≡ causes_of t
+  pub causes_answered_alike : head_of s ≡ Some (laid l task) → head_of t ≡ Some (laid m task) → why_checked s (laid l task) ≡ Ok tt → why_checked t (laid m task) ≡ Ok tt → causes_of s ≡ causes_of t
   unfolding answer_lines
   causes_answered_alike e f ok fine =
-      causes_good s (laid l task) Done e ok ∙ lines_alike _ _ asked_alike task.cols ∙ sym (causes_good t (laid m task) Done f fine)
+      causes_good s (laid l task) (Ok tt) e ok ∙ lines_alike _ _ asked_alike task.cols ∙ sym (causes_good t (laid m task) (Ok tt) f fine)

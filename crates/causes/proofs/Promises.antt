@@ -1,9 +1,8 @@
 -- What the program says of an accepted input is true by the rule. Assumes nothing.
-use Rattle.std.specs.Prelude.{◌≡◌, List, ℕ, ◌<◌, T}
+use Rattle.std.specs.Prelude.{Ok, ◌≡◌, List, ℕ, ◌<◌, T}
 use Rattle.std.specs.Float.Ieee.{lt}
 use Rattle.steps.specs.Num.{+zero, at}
 use Rattle.refusal.specs.Ladder.{both_done}
-use Rattle.refusal.specs.declared.Answer.TheVariants.{Done}
 use Rattle.rule.specs.Fits.{matrix_of}
 use Rattle.rule.specs.Sizes.{limits}
 use Rattle.rule.specs.declared.Task.{Task}
@@ -17,7 +16,7 @@ use Rattle.causes.specs.Promises.{problem_asked}
 use Rattle.causes.specs.Exchange.{why_before, why_checked, cause_asked}
 
 -- of an accepted input, and one of its terms
-module _ (s : List ℕ) (task : Task) (ok : why_checked s task ≡ Done) (j : ℕ) (below : j < task.cols) where
+module _ (s : List ℕ) (task : Task) (ok : why_checked s task ≡ Ok tt) (j : ℕ) (below : j < task.cols) where
   high : T (lt +zero task.setup.threshold)
   unfolding why_checked then_rows why_before
   high =

@@ -1,14 +1,12 @@
 -- Reading back an answer gives the code, the refit number and the coefficient of each cause that was written. Assumes nothing.
-use Rattle.std.specs.Prelude.{◌≡◌, List, ◌∷◌, ◌++◌, ℕ, ◌+◌, ◌*◌, ◌^◌, ◌<◌, T, length}
+use Rattle.std.specs.Prelude.{Ok, Some, ◌≡◌, List, ◌∷◌, ◌++◌, ℕ, ◌+◌, ◌*◌, ◌^◌, ◌<◌, T, length}
 use Rattle.std.proofs.Common.{◌∙◌, append_assoc, arith, length-append}
 use Rattle.std.specs.Float.{binary64}
 use Rattle.std.specs.Float.Ieee.{fits}
-use Rattle.hexdigits.specs.Hex.{number_at, float, digits, bits, newline}
+use Rattle.hexdigits.specs.Hex.{digits, bits, newline}
 use Rattle.hexdigits.specs.ReadBack.{length_digits, number_in, float_back}
-use Rattle.refusal.specs.declared.Answer.TheVariants.{Done}
 use Rattle.rule.specs.declared.Task.{Task}
 use Rattle.reader.specs.Header.{head_of}
-use Rattle.reader.specs.declared.inner.header.Head.TheVariants.{Good}
 use Rattle.exchange.specs.Exchange.{answer_lines}
 use Rattle.why.specs.Codes.{cause_code, cause_refit, cause_value}
 use Rattle.why.specs.declared.Cause.{Cause}
@@ -37,10 +35,10 @@ line_read_back text before a c at len r f =
     }
 
 -- the answer to an accepted input says the cause of each term: its code, its refit number and its coefficient, a NaN as a NaN
-pub causes_read_back : (s : List ℕ) (task : Task) → head_of s ≡ Good task → why_checked s task ≡ Done → (j : ℕ) → j < task.cols
+pub causes_read_back : (s : List ℕ) (task : Task) → head_of s ≡ Some task → why_checked s task ≡ Ok tt → (j : ℕ) → j < task.cols
     → Says (causes_of s) (cause_bytes * j) (cause_asked s task j)
 unfolding answer_lines
 causes_read_back s task e ok j below =
     let why = cause_asked s task in
-    rw (causes_good s task Done e ok)
+    rw (causes_good s task (Ok tt) e ok)
     (line_read_back (cause_lines why task.cols) (cause_lines why j) _ _ (line_at why j _ below) (length_causes why j) (refit_within s task ok j below) (value_within s task ok j below))

@@ -1,9 +1,9 @@
 -- The exchange of the program that says why: the bytes of an input in, a line for each term out. Assumes nothing.
 use Rattle.std.specs.Prelude.{ℕ, List}
-use Rattle.refusal.specs.Answers.{and_then}
-use Rattle.refusal.specs.declared.Answer.{Answer}
+use Rattle.refusal.specs.Answers.{and_then, Answer}
 use Rattle.rule.specs.Sizes.{limits}
 use Rattle.rule.specs.declared.Task.{Task}
+use Rattle.rule.specs.declared.given.Given.{Given}
 use Rattle.exchange.specs.Limits.{most_cols, most_rows}
 use Rattle.exchange.specs.Exchange.{then_rows, theta_asked, target_asked, answer_by}
 use Rattle.why.specs.Sizes.{low_threshold}
@@ -19,7 +19,11 @@ why_before task = and_then (limits most_cols most_rows task) (low_threshold task
 unfoldable pub why_checked : List ℕ → Task → Answer
 why_checked s task = then_rows (why_before task) s task
 
--- why the term j ended as it did in the fit of an input
+-- why the term j ended as it did in the fit of what is given
+abbrev pub cause_given : Given → ℕ → Cause
+cause_given g = cause_of g.task g.theta.now g.target.now
+
+-- the same in the fit of an input
 abbrev pub cause_asked : List ℕ → Task → ℕ → Cause
 cause_asked s task j = cause_of task (theta_asked s task) (target_asked s task) j
 

@@ -3,7 +3,7 @@ ghost use Rattle.std.specs.Prelude.{◌+◌, ◌≤◌, length};
 ghost use Rattle.hexdigits.specs.Put.{Written};
 ghost use Rattle.causes.specs.Lines.{cause_bytes, cause_line};
 
-use hexdigits::inner::{bits, wide, write_hex, write_line};
+use hexdigits::inner::{bits, write_hex, write_line};
 use why::{Cause, cause_code, cause_refit, cause_value};
 
 // The bytes of a line.
@@ -15,6 +15,6 @@ pub fn write_cause(c: Cause, out: &mut [u8], at: usize) -> usize
     ensures { Written at (cause_line c) out.old out.new result }
 {
     let a = write_hex(cause_code(c), 2, out, at);
-    let b = write_hex(wide(cause_refit(c)), 4, out, a);
+    let b = write_hex(cause_refit(c) as u64, 4, out, a);
     write_line(bits(cause_value(c)), 16, out, b)
 }

@@ -1,6 +1,5 @@
 -- Cholesky refuses, if at all, at one of its columns. Assumes nothing.
 use Rattle.std.specs.Prelude.{ℕ, List, Float}
-use Rattle.std.proofs.Common.{arith}
 use Rattle.std.specs.Float.Ieee.{le}
 use Rattle.steps.specs.Num.{times, 1e-14}
 use Rattle.steps.specs.Loops.{Way, going, stopped, StopsBelow, way_below}

@@ -7,28 +7,27 @@ ghost use Rattle.cholesky.specs.Cholesky.{scale, reduced, chol_below, chol_colum
 
 use float64::{abs, greater, sqrt};
 use refusal::Solved;
-use slices::inner::{cell, put, row_sum};
+use slices::inner::{Square, put};
 
 // a(i,j) less the products of rows i and j in the columns before j.
-fn row_less(a: &[f64], n: usize, i: usize, j: usize) -> f64
-    requires { (length a.now ≡ n * n) × (i < n) × (j < n) }
-    ensures { result ≡ reduced n a.now i j }
+fn row_less(a: Square, i: usize, j: usize) -> f64
+    requires { (i < a.n) × (j < a.n) }
+    ensures { result ≡ reduced a.entry.n a.entry.numbers.now i j }
 {
-    let mut s = cell(a, n, i, j);
+    let mut s = a.at(i, j);
     for k in 0..j {
-        s = s - cell(a, n, i, k) * cell(a, n, j, k);
+        s = s - a.at(i, k) * a.at(j, k);
     }
     s
 }
 
 // The largest of 1 and the |diagonal| entries.
-fn chol_scale(a: &[f64], n: usize) -> f64
-    requires { length a.now ≡ n * n }
-    ensures { result ≡ scale n a.now }
+fn chol_scale(a: Square) -> f64
+    ensures { result ≡ scale a.entry.n a.entry.numbers.now }
 {
     let mut s = 1.0;
-    for k in 0..n {
-        s = greater(s, abs(cell(a, n, k, k)));
+    for k in 0..a.n {
+        s = greater(s, abs(a.at(k, k)));
     }
     s
 }
@@ -39,7 +38,7 @@ fn chol_below(a: &mut [f64], n: usize, j: usize, d: f64)
     ensures { a.new ≡ chol_below n j d a.old }
 {
     for i in j + 1..n {
-        let s = row_less(a, n, i, j);
+        let s = row_less(Square { n, numbers: a }, i, j);
         put(a, n, i, j, s / d);
     }
 }
@@ -49,14 +48,14 @@ fn chol_column(a: &mut [f64], n: usize, bound: f64, j: usize) -> Solved
     requires { (length a.old ≡ n * n) × (j < n) }
     ensures { told result a.new ≡ chol_column n bound j a.old }
 {
-    let s = row_less(a, n, j, j);
+    let s = row_less(Square { n, numbers: a }, j, j);
     if s <= bound {
-        return Solved::Refused(j);
+        return Err(j);
     }
     let d = sqrt(s);
     put(a, n, j, j, d);
     chol_below(a, n, j, d);
-    Solved::Done
+    Ok(())
 }
 
 // The factor, on and below the diagonal.
@@ -64,49 +63,44 @@ pub fn cholesky_factor(a: &mut [f64], n: usize) -> Solved
     requires { length a.old ≡ n * n }
     ensures { told result a.new ≡ chol_factor n a.old }
 {
-    let bound = 1e-14 * chol_scale(a, n);
+    let bound = 1e-14 * chol_scale(Square { n, numbers: a });
     for j in 0..n {
-        let column = chol_column(a, n, bound, j);
-        let Solved::Done = column else {
-            return column;
-        };
+        chol_column(a, n, bound, j)?;
     }
-    Solved::Done
+    Ok(())
 }
 
 // b(i) less the products of column i below the diagonal.
-fn column_sum(l: &[f64], b: &[f64], n: usize, i: usize) -> f64
-    requires { (length l.now ≡ n * n) × (length b.now ≡ n) × (i < n) }
-    ensures { result ≡ less_sum (at b.now i) (i + 1) n (λ k. times (cell n l.now k i) (at b.now k)) }
+fn column_sum(l: Square, b: &[f64], i: usize) -> f64
+    requires { (length b.now ≡ l.n) × (i < l.n) }
+    ensures { result ≡ less_sum (at b.now i) (i + 1) l.entry.n (λ k. times (cell l.entry.n l.entry.numbers.now k i) (at b.now k)) }
 {
     let mut s = b[i];
-    for k in i + 1..n {
-        s = s - cell(l, n, k, i) * b[k];
+    for k in i + 1..l.n {
+        s = s - l.at(k, i) * b[k];
     }
     s
 }
 
 // Forward substitution.
-fn chol_forward(l: &[f64], b: &mut [f64], n: usize)
-    requires { (length l.now ≡ n * n) × (length b.old ≡ n) }
-    ensures { b.new ≡ chol_forward n l.now b.old }
+fn chol_forward(l: Square, b: &mut [f64])
+    requires { length b.old ≡ l.n }
+    ensures { b.new ≡ chol_forward l.entry.n l.entry.numbers.now b.old }
 {
-    for i in 0..n {
-        let s = row_sum(l, b, n, i, 0, i);
-        b[i] = s / cell(l, n, i, i);
+    for i in 0..l.n {
+        let s = l.row_sum(b, i, 0, i);
+        b[i] = s / l.at(i, i);
     }
 }
 
 // Back substitution.
-fn chol_back(l: &[f64], b: &mut [f64], n: usize)
-    requires { (length l.now ≡ n * n) × (length b.old ≡ n) }
-    ensures { b.new ≡ chol_back n l.now b.old }
+fn chol_back(l: Square, b: &mut [f64])
+    requires { length b.old ≡ l.n }
+    ensures { b.new ≡ chol_back l.entry.n l.entry.numbers.now b.old }
 {
-    let mut i = n;
-    while i > 0 {
-        i -= 1;
-        let rest = column_sum(l, b, n, i);
-        b[i] = rest / cell(l, n, i, i);
+    for i in (0..l.n).rev() {
+        let rest = column_sum(l, b, i);
+        b[i] = rest / l.at(i, i);
     }
 }
 
@@ -115,11 +109,9 @@ pub fn cholesky(a: &mut [f64], b: &mut [f64], n: usize) -> Solved
     requires { (length a.old ≡ n * n) × (length b.old ≡ n) }
     ensures { told result (a.new, b.new) ≡ cholesky n a.old b.old }
 {
-    let factored = cholesky_factor(a, n);
-    let Solved::Done = factored else {
-        return factored;
-    };
-    chol_forward(a, b, n);
-    chol_back(a, b, n);
-    Solved::Done
+    cholesky_factor(a, n)?;
+    let l = Square { n, numbers: a };
+    chol_forward(l, b);
+    chol_back(l, b);
+    Ok(())
 }

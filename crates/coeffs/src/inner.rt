@@ -30,8 +30,8 @@ pub fn support_of(coeffs: &[f64], setup: Setup) -> Support
     ensures { result.0 ≡ word (λ j. keeps setup j (at coeffs.now j)) (length coeffs.now) }
 {
     let mut s = Support::empty();
-    for j in 0..coeffs.len() {
-        s = look_at(s, Term(j), coeffs[j], setup);
+    for (j, c) in coeffs.iter().enumerate() {
+        s = look_at(s, Term(j), *c, setup);
     }
     s
 }
@@ -40,22 +40,17 @@ pub fn support_of(coeffs: &[f64], setup: Setup) -> Support
 pub fn finds(coeffs: &[f64], term_idx: Term, setup: Setup) -> bool
     ensures { result ≡ has (word (λ j. keeps setup j (at coeffs.now j)) (length coeffs.now)) term_idx.0 }
 {
-    let i = term_idx.0;
-    if i < coeffs.len() {
-        return kept(coeffs[i], setup);
+    match coeffs.get(term_idx.0) {
+        Some(c) => kept(*c, setup),
+        None => false,
     }
-    false
 }
 
 // The coefficient of a term; where there is no such term, a NaN.
 pub fn coefficient(coeffs: &[f64], term_idx: Term) -> f64
     ensures { result ≡ at coeffs.now term_idx.0 }
 {
-    let i = term_idx.0;
-    if i < coeffs.len() {
-        return coeffs[i];
-    }
-    0.0 / 0.0
+    coeffs.get(term_idx.0).copied().unwrap_or(f64::NAN)
 }
 
 // A coefficient after the last pass.
@@ -69,8 +64,8 @@ fn pruned(c: f64, setup: Setup) -> f64
 pub fn prune(coeffs: &mut [f64], setup: Setup)
     ensures { coeffs.new ≡ tab (length coeffs.old) (λ j. cond (clears setup j (at coeffs.old j)) +zero (at coeffs.old j)) }
 {
-    for j in 0..coeffs.len() {
-        coeffs[j] = pruned(coeffs[j], setup);
+    for c in coeffs.iter_mut() {
+        *c = pruned(*c, setup);
     }
 }
 
@@ -79,8 +74,7 @@ fn value_at(values: &[f64], col: Col) -> f64
     requires { col.0 < length values.now }
     ensures { result ≡ at values.now col.0 }
 {
-    let i = col.0;
-    values[i]
+    values[col.0]
 }
 
 // What stands at a term after a refit: the value at its reduced place, +0.0 where it is not supported.
@@ -100,8 +94,7 @@ fn put(coeffs: &mut [f64], term_idx: Term, x: f64)
     requires { term_idx.0 < length coeffs.old }
     ensures { coeffs.new ≡ set coeffs.old term_idx.0 x }
 {
-    let i = term_idx.0;
-    coeffs[i] = x;
+    coeffs[term_idx.0] = x;
 }
 
 // The values at the head of the coefficients go to their terms, all else is +0.0. From the last term down: a reduced place is at most its term number,
@@ -110,9 +103,7 @@ pub fn scatter(coeffs: &mut [f64], support: Support)
     requires { length coeffs.old ≤ 64 }
     ensures { coeffs.new ≡ scatter (length coeffs.old) support.0 coeffs.old }
 {
-    let mut j = coeffs.len();
-    while j > 0 {
-        j -= 1;
+    for j in (0..coeffs.len()).rev() {
         let x = value_of(coeffs, support, Term(j));
         put(coeffs, Term(j), x);
     }

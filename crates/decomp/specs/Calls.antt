@@ -1,9 +1,7 @@
 -- What `qr` answers and leaves. Assumes nothing.
-use Rattle.std.specs.Prelude.{◌≡◌, not, List, ℕ, ◌*◌, ltb, eqb, length, Float}
+use Rattle.std.specs.Prelude.{◌≡◌, not, List, ℕ, ◌*◌, ltb, eqb, length, Ok, Float}
 use Rattle.steps.specs.Space.{cleared}
-use Rattle.refusal.specs.Answers.{refuse_if, if_done}
-use Rattle.refusal.specs.declared.Answer.{Answer}
-use Rattle.refusal.specs.declared.Answer.TheVariants.{Done}
+use Rattle.refusal.specs.Answers.{Answer, refuse_if, if_done}
 use Rattle.refusal.specs.declared.Refusal.TheVariants.{ManyColumns, ManyRows, MatrixLength, OutputLength, FewRows, WorkspaceShort}
 use Rattle.householder.specs.Qr.{after, betas}
 
@@ -17,7 +15,7 @@ qr_sizes m n matrix «data» betas space =
     (refuse_if (not (eqb betas n)) OutputLength
     (refuse_if (ltb m n) FewRows
     (refuse_if (ltb space m) WorkspaceShort
-    Done))))))
+    (Ok tt)))))))
 
 -- `qr` of a: the answer, the packed factor, the betas, and m numbers of the workspace cleared
 pub record QrCall (a : List Float) (m n : ℕ) (d d' b b' w w' : List Float) (r : Answer) : Type 0 where

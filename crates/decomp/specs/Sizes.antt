@@ -1,10 +1,9 @@
 -- What the sizes of `qr` tell that are not refused. Assumes nothing.
-use Rattle.std.specs.Prelude.{◌≡◌, not, ℕ, ◌*◌, ◌≤◌, ltb, eqb}
+use Rattle.std.specs.Prelude.{◌≡◌, not, ℕ, ◌*◌, ◌≤◌, ltb, eqb, Ok}
 use Rattle.std.proofs.Common.{sym, ◌∙◌, ltb-false, eqb-true}
 use Rattle.std.proofs.lemmas.Bool.{not-false}
 use Rattle.refusal.specs.Ladder.{not_refused}
-use Rattle.refusal.specs.declared.Answer.{Answer}
-use Rattle.refusal.specs.declared.Answer.TheVariants.{Done}
+use Rattle.refusal.specs.Answers.{Answer}
 use Rattle.refusal.specs.declared.Refusal.TheVariants.{ManyColumns, ManyRows, MatrixLength, OutputLength, FewRows, WorkspaceShort}
 use Rattle.decomp.specs.Calls.{qr_sizes}
 
@@ -17,7 +16,7 @@ pub record QrSized (m n matrix «data» betas : ℕ) : Type 0 where
   pub scales : betas ≡ n
   pub tall : n ≤ m
 
-pub qr_fits : {m n matrix «data» betas space : ℕ} {sizes : Answer} → sizes ≡ qr_sizes m n matrix «data» betas space → sizes ≡ Done → QrSized m n matrix «data» betas × (m ≤ space)
+pub qr_fits : {m n matrix «data» betas space : ℕ} {sizes : Answer} → sizes ≡ qr_sizes m n matrix «data» betas space → sizes ≡ Ok tt → QrSized m n matrix «data» betas × (m ≤ space)
 unfolding qr_sizes
 qr_fits {m} {n} {matrix} {«data»} {betas} {space} judged e =
     let few = not_refused (ltb 64 n) ManyColumns _ (sym judged ∙ e) in

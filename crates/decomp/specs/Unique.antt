@@ -1,6 +1,6 @@
 -- The contract of `qr` determines its answer and every number that it leaves. Assumes nothing.
 use Rattle.std.specs.Prelude.{◌≡◌, List, ℕ, Float}
-use Rattle.refusal.specs.declared.Answer.{Answer}
+use Rattle.refusal.specs.Answers.{Answer}
 use Rattle.decomp.specs.Calls.{QrCall}
 
 pub qr_unique : (a : List Float) (m n : ℕ) (d b w d' b' w' d'' b'' w'' : List Float) (r s : Answer) →

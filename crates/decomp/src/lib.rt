@@ -10,31 +10,32 @@ use crate::ready::qr_ready;
 use refusal::{Answer, Refusal};
 
 // The first refusal that applies to m rows, n columns and these lengths.
+#[tactic(auto, using(refusal::specs::Ladder::ladder), unfolding(crate::specs::Calls::qr_sizes))]
 fn qr_sizes(m: usize, n: usize, matrix: usize, data: usize, betas: usize, space: usize) -> Answer
     ensures { result ≡ qr_sizes m n matrix «data» betas space }
 {
     if n > 64 {
-        return Answer::Refused(Refusal::ManyColumns);
+        return Err(Refusal::ManyColumns);
     }
     if m > 4160 {
-        return Answer::Refused(Refusal::ManyRows);
+        return Err(Refusal::ManyRows);
     }
     if matrix != m * n {
-        return Answer::Refused(Refusal::MatrixLength);
+        return Err(Refusal::MatrixLength);
     }
     if data != m * n {
-        return Answer::Refused(Refusal::OutputLength);
+        return Err(Refusal::OutputLength);
     }
     if betas != n {
-        return Answer::Refused(Refusal::OutputLength);
+        return Err(Refusal::OutputLength);
     }
     if m < n {
-        return Answer::Refused(Refusal::FewRows);
+        return Err(Refusal::FewRows);
     }
     if space < m {
-        return Answer::Refused(Refusal::WorkspaceShort);
+        return Err(Refusal::WorkspaceShort);
     }
-    Answer::Done
+    Ok(())
 }
 
 // QR of the m by n matrix `a` into `data` and `betas`; the workspace has at least m numbers.
@@ -48,10 +49,7 @@ pub fn qr(
 ) -> Answer
     ensures { QrCall a.now m n «data».old «data».new betas.old betas.new workspace.old workspace.new result }
 {
-    let sizes = qr_sizes(m, n, a.len(), data.len(), betas.len(), workspace.len());
-    let Answer::Done = sizes else {
-        return sizes;
-    };
+    qr_sizes(m, n, a.len(), data.len(), betas.len(), workspace.len())?;
     qr_ready(a, m, n, data, betas, workspace);
-    Answer::Done
+    Ok(())
 }

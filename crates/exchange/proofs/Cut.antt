@@ -1,5 +1,5 @@
 -- Reading no more than the programs' room changes no answer: an input that is longer than any valid one is refused by its header, or is malformed. Assumes nothing.
-use Rattle.std.specs.Prelude.{◌≡◌, Bool, false, ◌&&◌, List, get_or}
+use Rattle.std.specs.Prelude.{Err, None, Ok, Some, ◌≡◌, Bool, false, ◌&&◌, List, get_or, Option}
 use Rattle.std.proofs.Math.Path.{refl, ap, ap₂}
 use Rattle.std.proofs.Common.{◌∙◌, ⊎_elim, mul-le-mul, arith, take_all}
 use Prim.Native.Nat.{ℕ, zero, suc, ◌+◌, ◌*◌, ◌≤◌, ◌<◌}
@@ -8,9 +8,7 @@ use Rattle.std.proofs.Math.Dec.{ltb}
 use Rattle.std.proofs.Math.ListN.{length, take}
 use Rattle.std.proofs.Math.Seq.{get_or-take, length-take-le}
 use Rattle.steps.specs.Cond.{lt_or_ge}
-use Rattle.refusal.specs.Answers.{and_then}
-use Rattle.refusal.specs.declared.Answer.{Answer}
-use Rattle.refusal.specs.declared.Answer.TheVariants.{Done, Refused}
+use Rattle.refusal.specs.Answers.{and_then, Answer}
 use Rattle.refusal.specs.declared.Refusal.{Refusal}
 use Rattle.refusal.specs.declared.Refusal.TheVariants.{Malformed}
 use Rattle.hexdigits.specs.All.{all}
@@ -19,22 +17,18 @@ use Rattle.places.specs.declared.Layout.{Layout}
 use Rattle.places.specs.declared.Layout.TheVariants.{ByRows, ByColumns}
 use Rattle.rule.specs.Sizes.{Limited}
 use Rattle.rule.specs.Codes.{by_code}
-use Rattle.rule.specs.declared.Coded.{Coded}
-use Rattle.rule.specs.declared.Coded.TheVariants.{By, Unknown}
 use Rattle.rule.specs.declared.Solver.{Solver}
 use Rattle.rule.specs.declared.Task.{Task}
 use Rattle.reader.specs.Header.{header_digits, header_frame, header_formed, header, head_by, head_of}
 use Rattle.reader.specs.Frames.{frame_at, frames_formed}
 use Rattle.reader.specs.Numbers.{frame_count, frame_digits}
-use Rattle.reader.specs.declared.inner.header.Head.{Head}
-use Rattle.reader.specs.declared.inner.header.Head.TheVariants.{Good, Wrong}
 use Rattle.exchange.specs.Limits.{most_cols, most_rows, input_room}
 use Rattle.exchange.specs.Exchange.{task_frames, task_digits, frames_fine, then_rows, answer_lines, answer_to, answer_by}
 
 -- where the first ladder is passed, the second refuses as w
-refused_after : (a next : Answer) (w : Refusal) → (a ≡ Done → next ≡ Refused w) → and_then a next ≡ and_then a (Refused w)
-refused_after Done next w h = h refl
-refused_after (Refused v) next w h = refl
+refused_after : (a next : Answer) (w : Refusal) → (a ≡ Ok tt → next ≡ Err w) → and_then a next ≡ and_then a (Err w)
+refused_after (Ok done) next w h = h refl
+refused_after (Err v) next w h = refl
 
 -- two tests that agree below n
 all_same : (f g : ℕ → Bool) (n : ℕ) → ((i : ℕ) → i < n → f i ≡ g i) → all f n ≡ all g n
@@ -64,9 +58,9 @@ module _ (s t : List ℕ) (same : (i : ℕ) → i < header_frame → get_or s i 
         number_same 28 16 (omega arith),
       )
 
-  coded_same : (k : Coded) → head_by s k ≡ head_by t k
-  coded_same (By layout solver) = ap Good (fields_same layout solver)
-  coded_same Unknown = refl
+  coded_same : (k : Option (Layout × Solver)) → head_by s k ≡ head_by t k
+  coded_same (Some (layout, solver)) = ap Some (fields_same layout solver)
+  coded_same None = refl
 
   head_same : header_frame ≤ length s → header_frame ≤ length t → head_of s ≡ head_of t
   unfolding head_of header_formed
@@ -90,23 +84,23 @@ long_formed s l task k =
     rw (ne_eqb (length s) (frame_at (task_digits task) (task_frames task)) (λ e. omega (arith, end))) refl
 
 -- a program that passes only tasks within the limits, and writes any lines of them
-module _ (before : Task → Answer) (lines : List ℕ → Task → List ℕ) (passed : (task : Task) → before task ≡ Done → Limited most_cols most_rows task) where
+module _ (before : Task → Answer) (lines : List ℕ → Task → List ℕ) (passed : (task : Task) → before task ≡ Ok tt → Limited most_cols most_rows task) where
   -- so what refuses a longer input is by its task alone
-  long_checked : (s : List ℕ) → input_room ≤ length s → (task : Task) → then_rows (before task) s task ≡ and_then (before task) (Refused Malformed)
+  long_checked : (s : List ℕ) → input_room ≤ length s → (task : Task) → then_rows (before task) s task ≡ and_then (before task) (Err Malformed)
   unfolding then_rows
   long_checked s l task = refused_after (before task) _ Malformed (λ e. rw (long_formed s l task (passed task e)) refl)
 
   -- a refusal's line does not depend on the input
-  same_lines : (s t : List ℕ) (task : Task) (a : Answer) → answer_lines lines s task (and_then a (Refused Malformed)) ≡ answer_lines lines t task (and_then a (Refused Malformed))
+  same_lines : (s t : List ℕ) (task : Task) (a : Answer) → answer_lines lines s task (and_then a (Err Malformed)) ≡ answer_lines lines t task (and_then a (Err Malformed))
   unfolding answer_lines
-  same_lines s t task Done = refl
-  same_lines s t task (Refused w) = refl
+  same_lines s t task (Ok done) = refl
+  same_lines s t task (Err w) = refl
 
   -- so two longer inputs of one header are answered alike
-  long_answer : (s t : List ℕ) (d : Head) → input_room ≤ length s → input_room ≤ length t → answer_to before lines s d ≡ answer_to before lines t d
+  long_answer : (s t : List ℕ) (d : Option Task) → input_room ≤ length s → input_room ≤ length t → answer_to before lines s d ≡ answer_to before lines t d
   unfolding answer_to
-  long_answer s t (Good task) l k = rw (long_checked s l task, long_checked t k task) (same_lines s t task (before task))
-  long_answer s t Wrong l k = refl
+  long_answer s t (Some task) l k = rw (long_checked s l task, long_checked t k task) (same_lines s t task (before task))
+  long_answer s t None l k = refl
 
   long_cut : (s : List ℕ) → input_room ≤ length s → answer_by before lines (take input_room s) ≡ answer_by before lines s
   unfolding answer_by

@@ -3,12 +3,12 @@
 
 use exchange::inner::INPUT;
 use frames::ANSWER;
-use input::inner::{Input, read_input};
+use input::inner::read_input;
 
 // A read that fails ends the program with nothing written; so does a closed output.
 fn main(rt: HostRuntime) {
     let mut room = [0u8; INPUT];
-    let Input::Whole(n) = read_input(&mut rt.stdin(), &mut room) else {
+    let Ok(n) = read_input(&mut rt.stdin(), &mut room) else {
         return;
     };
     let mut answer = [0u8; ANSWER];

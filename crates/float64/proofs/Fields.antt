@@ -38,10 +38,7 @@ moved s f h =
     let z : f + 51 ≡ f - 1 + 52 = omega arith in
     ap (λ (x : ℕ). s * 2 ^ x) z ∙ ap (λ (x : ℕ). s * x) (pow-add 2 (f - 1) 52) ∙ sym (mul_assoc s (2 ^ (f - 1)) (2 ^ 52))
 
--- so a small number's digits are to be widened, and a normal number's pattern has its 53 digits at hand
-pub widened_low : (b s e : ℕ) → b / 2 ^ 52 ≡ 0 → Widened (b % 2 ^ 52) s e → Widened (units_of b) s e
-widened_low b s e h w = subst (λ (u : ℕ). Widened u s e) (sym (units_low b h)) w
-
+-- so a normal number's pattern has its 53 digits at hand
 pub widened_high : (b : ℕ) → b < 0x7ff0_0000_0000_0000 → (b / 2 ^ 52 ≡ 0 → ⊥) → Widened (units_of b) (2 ^ 52 + b % 2 ^ 52) (b / 2 ^ 52 + 51)
 widened_high b l n = subst (λ (u : ℕ). Widened u (2 ^ 52 + b % 2 ^ 52) (b / 2 ^ 52 + 51)) (sym (units_high b n))
     (record { same = moved (2 ^ 52 + b % 2 ^ 52) (b / 2 ^ 52) n; low = omega arith; high = omega arith; most = omega arith })

@@ -1,6 +1,10 @@
--- One turn of each of the two loops, on plain numbers. Assumes nothing.
-use Rattle.std.proofs.Common.{◌≡◌, ℕ, zero, suc, ◌+◌, ◌-◌, ◌*◌, ◌/◌, ◌%◌, ◌^◌, ◌<◌, ◌≤◌, sym, ap, ◌∙◌, subst, mul_assoc, mul_comm, le_antisymm, mul-one, mul_left_comm, arith, pow_mono, pow-add}
-use native.Mathlib.Nat.{mul-mul-mul_comm, pow-succ'}
+-- One turn of the loop over the digits, and a number brought to 53 digits, on plain numbers. Assumes nothing.
+use Rattle.std.proofs.Common.{◌≡◌, ℕ, ◌+◌, ◌-◌, ◌*◌, ◌/◌, ◌%◌, ◌^◌, ◌<◌, ◌≤◌, sym, ap, ◌∙◌, subst, mul_assoc, mul_comm, le_antisymm, mul_left_comm, arith, pow_mono, pow-add}
+use native.Mathlib.Nat.{mul-mul-mul_comm}
+use Rattle.std.proofs.Math.Nat.{mul-le-mul_right, mul-lt-mul_of_pos_right}
+use Rattle.std.proofs.Math.Logic.{dite}
+use Rattle.std.proofs.Math.Decide.{dec_le}
+use Rattle.std.proofs.lemmas.Nat.{pow_pos}
 use Rattle.float64.specs.Parts.{WholePart}
 use Rattle.float64.proofs.Square.{sq_next}
 
@@ -53,22 +57,22 @@ done s rest q rem i t h =
 pub start : (s : ℕ) → s < 2 ^ 54 → Turn s s 0 0 0
 start s h = record { most = omega arith; low = h; short = omega arith; few = omega arith; all = omega arith }
 
--- ---- a turn of the loop that brings a number to 53 digits
-pub record Shift (n s e : ℕ) : Type 0 where
-  pub same : s * 2 ^ e ≡ n * 2 ^ 52
-  pub high : s < 2 ^ 53
-  pub most : e ≤ 52
+-- ---- a number brought to 53 digits, by the place r of its first digit
+module _ (r s : ℕ) (low : 2 ^ r ≤ s) (high : s < 2 * 2 ^ r) where
+  pub first_below : s < 2 ^ 52 → r ≤ 51
+  first_below h = dite (dec_le r 51) (λ (l : r ≤ 51). l) (λ (n : r ≤ 51 → ⊥). let p : 2 ^ 52 ≤ 2 ^ r = pow_mono {i = 52} {j = r} (omega arith) in absurd (omega arith))
 
-pub shift_some : (n s e : ℕ) → 0 < n → Shift n s e → s < 2 ^ 52 → 0 < e
-shift_some n s zero N t h = absurd (omega (arith, t.same, mul-one s))
-shift_some n s (suc e) N t h = omega arith
+  pub record Shifted : Type 0 where
+    pub same : s * 2 ^ (52 - r) * 2 ^ r ≡ s * 2 ^ 52
+    pub low_53 : 2 ^ 52 ≤ s * 2 ^ (52 - r)
+    pub high_53 : s * 2 ^ (52 - r) < 2 ^ 53
 
-pub shift_more : (n s e : ℕ) → 0 < n → Shift n s e → s < 2 ^ 52 → Shift n (s * 2) (e - 1)
-shift_more n s e N t h =
-    let p : 0 < e = shift_some n s e N t h in
-    let q : suc (e - 1) ≡ e = omega arith in
-    record {
-      same = mul_assoc s 2 (2 ^ (e - 1)) ∙ ap (λ (x : ℕ). s * x) (sym (pow-succ' 2 (e - 1)) ∙ ap (λ (x : ℕ). 2 ^ x) q) ∙ t.same;
-      high = omega arith;
-      most = omega (arith, t.most);
-    }
+  pub shifted : r ≤ 51 → Shifted
+  shifted h =
+      let e : 52 - r + r ≡ 52 = omega arith in
+      let whole : 2 ^ (52 - r) * 2 ^ r ≡ 2 ^ 52 = sym (pow-add 2 (52 - r) r) ∙ ap (λ (x : ℕ). 2 ^ x) e in
+      let least : 2 ^ r * 2 ^ (52 - r) ≤ s * 2 ^ (52 - r) = mul-le-mul_right _ low in
+      let most : s * 2 ^ (52 - r) < 2 * 2 ^ r * 2 ^ (52 - r) = mul-lt-mul_of_pos_right high (pow_pos _) in
+      let turned : 2 ^ r * 2 ^ (52 - r) ≡ 2 ^ 52 = mul_comm (2 ^ r) _ ∙ whole in
+      let twice : 2 * 2 ^ r * 2 ^ (52 - r) ≡ 2 * 2 ^ 52 = mul_assoc 2 (2 ^ r) _ ∙ ap (λ (x : ℕ). 2 * x) turned in
+      record { same = mul_assoc s _ _ ∙ ap (λ (x : ℕ). s * x) whole; low_53 = omega arith; high_53 = omega arith }

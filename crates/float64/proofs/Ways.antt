@@ -1,19 +1,19 @@
 -- What the root is on each way out of `sqrt`. Assumes nothing.
 use Rattle.std.proofs.Common.{◌≡◌, ℕ, ◌+◌, ◌*◌, ◌/◌, ◌^◌, Bool, true, false, cond, T, sym, refl, ap, ◌∙◌, true≢false, zero-mul, mul-div_cancel, arith, ltb-true, eq-eqb, ne_eqb}
 use mathlib.Core.Bool.{false≢true}
-use lib.Ieee.{Float, binary64, fits, of_bits, nan, inf, fin, up, down, eq, lt, div, to_bits}
+use lib.Ieee.{Float, binary64, fits, of_bits, nan, inf, fin, up, down, eq, lt, to_bits}
 use lib.Ieee.Bits.{of_bits-to_bits}
 use lib.Ieee.Exact.{HasValue}
 use lib.Ieee.Fits.{down_pos}
 use Rattle.float64.specs.Root.{units, nearest_root, root_of}
 use Rattle.float64.proofs.Tests.{no_digits, some_digits, digits_below}
 
--- ---- the root where it is not rounded; a NaN is written 0.0 / 0.0
-abbrev quotient : Float
-quotient = div binary64 (of_bits binary64 0) (of_bits binary64 0)
+-- ---- the root where it is not rounded; a NaN is written by its bits
+abbrev pub written : Float
+written = of_bits binary64 0x7ff8_0000_0000_0000
 
-pub root_nan : (x : Float) → x ≡ nan → quotient ≡ root_of x
-unfolding root_of of_bits div
+pub root_nan : (x : Float) → x ≡ nan → written ≡ root_of x
+unfolding root_of of_bits
 root_nan x h = sym (ap root_of h)
 
 pub root_zero : (x : Float) → eq x (of_bits binary64 0) ≡ true → x ≡ root_of x
@@ -22,8 +22,8 @@ root_zero nan h = absurd (false≢true h)
 root_zero (inf s) h = absurd (false≢true h)
 root_zero (fin s m e) h = sym (ap (λ (t : Bool). cond t (fin s m e) (cond s nan (nearest_root (units (fin s m e))))) (eq-eqb m 0 (no_digits s m e h)))
 
-pub root_neg : (x : Float) → lt x (of_bits binary64 0) ≡ true → quotient ≡ root_of x
-unfolding lt of_bits div root_of
+pub root_neg : (x : Float) → lt x (of_bits binary64 0) ≡ true → written ≡ root_of x
+unfolding lt of_bits root_of
 root_neg nan h = absurd (false≢true h)
 root_neg (inf true) h = refl
 root_neg (inf false) h = absurd (false≢true h)

@@ -11,16 +11,16 @@ ghost use Rattle.float64.specs.Rule.{SqrtCall};
 pub fn sqrt(x: f64) -> f64
     ensures { SqrtCall x result }
 {
-    if x != x {
-        return 0.0 / 0.0;
+    if x.is_nan() {
+        return f64::NAN;
     }
     if x == 0.0 {
         return x;
     }
     if x < 0.0 {
-        return 0.0 / 0.0;
+        return f64::NAN;
     }
-    let b = f64::to_bits(x);
+    let b = x.to_bits();
     if b == 0x7ff0_0000_0000_0000 {
         return x;
     }
@@ -31,17 +31,17 @@ pub fn sqrt(x: f64) -> f64
 pub fn abs(x: f64) -> f64
     ensures { result ≡ abs_of x }
 {
-    if x != x {
+    if x.is_nan() {
         return x;
     }
-    f64::from_bits(f64::to_bits(x) % 0x8000_0000_0000_0000)
+    f64::from_bits(x.to_bits() % 0x8000_0000_0000_0000)
 }
 
 // The greater of two, where a NaN is passed over; of two equal ones the first.
 pub fn greater(a: f64, b: f64) -> f64
     ensures { result ≡ greater_of a b }
 {
-    if a != a {
+    if a.is_nan() {
         return b;
     }
     if a < b { b } else { a }

@@ -3,27 +3,29 @@
 
 ghost use Rattle.std.specs.Prelude.{◌≡◌, ℕ, ◌*◌, ◌^◌, ◌<◌, ◌≤◌, true};
 ghost use Rattle.float64.specs.Rule.{units_of};
-ghost use Rattle.float64.specs.Parts.{WholePart, Halved, Widened, Rooted};
+ghost use Rattle.float64.specs.Parts.{WholePart, Halved, Rooted};
 
-use std::num::wrapping_sub_u64;
-
-// Digits and a scale, sig * 2 ^ exp.
+// 53 digits and a scale, digits * 2 ^ exp.
 #[derive(Clone, Copy)]
-struct Scaled(u64, u64);
+struct Scaled {
+    digits: u64,
+    exp: u64,
+    ghost low: { 2 ^ 52 ≤ digits },
+    ghost high: { digits < 2 ^ 53 },
+    ghost most: { exp ≤ 2097 },
+}
 
-// sig * 2 ^ 52 written with 53 digits: digits * 2 ^ exp.
+// sig * 2 ^ 52 written with 53 digits.
 fn widened(sig: u64) -> Scaled
-    requires fact_1 { 0 < sig }
-    requires fact_2 { sig < 2 ^ 52 }
-    ensures { Widened sig result.0 result.1 }
+    requires some { 0 < sig }
+    requires few { sig < 2 ^ 52 }
+    ensures { result.digits * 2 ^ result.exp ≡ sig * 2 ^ 52 }
 {
-    let mut s = sig;
-    let mut e: u64 = 52;
-    while s < 0x10_0000_0000_0000 {
-        s = s * 2;
-        e = e - 1;
+    let exp = sig.ilog2();
+    Scaled {
+        digits: sig << (52 - exp),
+        exp: u64::from(exp),
     }
-    Scaled(s, e)
 }
 
 // The whole part of the root of s * 2 ^ 54, two digits a turn.
@@ -34,12 +36,10 @@ fn root_digits(s: u64) -> u64
     let mut rest = s;
     let mut q: u64 = 0;
     let mut rem: u64 = 0;
-    let mut i: u64 = 0;
-    while i < 54 {
+    for _ in 0u64..54 {
         let next = rem * 4 + rest / 0x10_0000_0000_0000;
         rest = rest % 0x10_0000_0000_0000 * 4;
         let trial = q * 4 + 1;
-        i = i + 1;
         if next >= trial {
             rem = next - trial;
             q = q * 2 + 1;
@@ -53,22 +53,22 @@ fn root_digits(s: u64) -> u64
 
 // The 53 digits in a pattern of a number that is not small.
 fn digits_of(z: f64) -> u64
-    ensures fact_1 { 2 ^ 52 ≤ result }
-    ensures fact_2 { result < 2 ^ 53 }
+    ensures low { 2 ^ 52 ≤ result }
+    ensures high { result < 2 ^ 53 }
 {
-    if z != z {
+    if z.is_nan() {
         return 0x10_0000_0000_0000;
     }
-    f64::to_bits(z) % 0x10_0000_0000_0000 + 0x10_0000_0000_0000
+    z.to_bits() % 0x10_0000_0000_0000 + 0x10_0000_0000_0000
 }
 
 // A guess at the nearest whole number to the root of s * 2 ^ 52, where b is the pattern of s / 2 ^ 52. Nothing is claimed of how near it
 // is: `nearest` tests it, and where it fails, some once in a thousand, the digits are found one by one.
 fn guess(b: u64) -> u64
-    requires fact_1 { 0x3ff0_0000_0000_0000 ≤ b }
-    requires fact_2 { b < 0x4010_0000_0000_0000 }
-    ensures fact_1 { 2 ^ 52 ≤ result }
-    ensures fact_2 { result < 2 ^ 53 }
+    requires from_1 { 0x3ff0_0000_0000_0000 ≤ b }
+    requires below_4 { b < 0x4010_0000_0000_0000 }
+    ensures low { 2 ^ 52 ≤ result }
+    ensures high { result < 2 ^ 53 }
 {
     let f = f64::from_bits(b);
     // p is near 1 / (2 * root), y = 2 * f * p near the root: Newton's steps, two with a constant that centres the error
@@ -92,18 +92,18 @@ fn guess(b: u64) -> u64
 // 27 digits, a * a * 2 ^ 54, a * b * 2 ^ 28 and b * b are taken off in turn; 2 ^ 54 is added before the last, which may leave less than nothing. The answer
 // is also no where what is left is below zero, which wraps, or too large to go on with: then the guess was far off, or a * b is nothing.
 fn nearest(s: u64, m: u64) -> bool
-    requires fact_1 { s < 2 ^ 54 }
-    requires fact_2 { 2 ^ 52 ≤ m }
-    requires fact_3 { m < 2 ^ 53 }
+    requires few { s < 2 ^ 54 }
+    requires low { 2 ^ 52 ≤ m }
+    requires high { m < 2 ^ 53 }
     ensures { result ≡ true → Halved s m }
 {
     let a = m / 0x800_0000;
     let b = m % 0x800_0000;
-    let t = wrapping_sub_u64(s, a * a * 4);
+    let t = s.wrapping_sub(a * a * 4);
     if t >= 0x10_0000_0000 {
         return false;
     }
-    let v = wrapping_sub_u64(t * 0x100_0000 + 0x400_0000, a * b);
+    let v = (t * 0x100_0000 + 0x400_0000).wrapping_sub(a * b);
     if v >= 0x8_0000_0000 {
         return false;
     }
@@ -117,9 +117,9 @@ fn nearest(s: u64, m: u64) -> bool
 
 // The root of s * 2 ^ 52 rounded to the nearest whole number: a guess that passes the test, or else by digits.
 fn half_root(s: u64, b: u64) -> u64
-    requires fact_1 { s < 2 ^ 54 }
-    requires fact_2 { 0x3ff0_0000_0000_0000 ≤ b }
-    requires fact_3 { b < 0x4010_0000_0000_0000 }
+    requires few { s < 2 ^ 54 }
+    requires from_1 { 0x3ff0_0000_0000_0000 ≤ b }
+    requires below_4 { b < 0x4010_0000_0000_0000 }
     ensures { Halved s result }
 {
     let m = guess(b);
@@ -131,38 +131,37 @@ fn half_root(s: u64, b: u64) -> u64
 }
 
 // From digits and a scale to the pattern of the root.
-fn packed(sig: u64, exp: u64) -> u64
-    requires fact_1 { 2 ^ 52 ≤ sig }
-    requires fact_2 { sig < 2 ^ 53 }
-    requires fact_3 { exp ≤ 2097 }
-    ensures { (n : ℕ) → sig * 2 ^ exp ≡ n * 2 ^ 52 → Rooted n result }
+fn packed(x: Scaled) -> u64
+    ensures { (n : ℕ) → x.digits * 2 ^ x.exp ≡ n * 2 ^ 52 → Rooted n result }
 {
-    let h = exp / 2;
-    let s = sig * (1 + exp % 2);
-    let m = half_root(s, sig + (0x3fe + exp % 2) * 0x10_0000_0000_0000);
+    let h = x.exp / 2;
+    let s = x.digits * (1 + x.exp % 2);
+    let m = half_root(s, x.digits + (0x3fe + x.exp % 2) * 0x10_0000_0000_0000);
     (485 + h) * 0x10_0000_0000_0000 + m
 }
 
 // The positive finite number whose pattern is b, in units of 2 ^ -1074 and these times 2 ^ 52, written with 53 digits.
 fn parted(b: u64) -> Scaled
-    requires fact_1 { 0 < b }
-    requires fact_2 { b < 0x7ff0_0000_0000_0000 }
-    ensures { Widened (units_of b) result.0 result.1 }
+    requires positive { 0 < b }
+    requires finite { b < 0x7ff0_0000_0000_0000 }
+    ensures { result.digits * 2 ^ result.exp ≡ units_of b * 2 ^ 52 }
 {
     let field = b / 0x10_0000_0000_0000;
     let digits = b % 0x10_0000_0000_0000;
     if field == 0 {
         return widened(digits);
     }
-    Scaled(0x10_0000_0000_0000 + digits, field + 51)
+    Scaled {
+        digits: 0x10_0000_0000_0000 + digits,
+        exp: field + 51,
+    }
 }
 
 // The pattern of the root of the positive finite number whose pattern is b.
 pub fn root_pattern(b: u64) -> u64
-    requires fact_1 { 0 < b }
-    requires fact_2 { b < 0x7ff0_0000_0000_0000 }
+    requires positive { 0 < b }
+    requires finite { b < 0x7ff0_0000_0000_0000 }
     ensures { Rooted (units_of b) result }
 {
-    let w = parted(b);
-    packed(w.0, w.1)
+    packed(parted(b))
 }

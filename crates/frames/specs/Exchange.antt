@@ -1,6 +1,6 @@
 -- The bench program's exchange: the bytes of an input in, those of its answer out. Assumes nothing.
 use Rattle.std.specs.Prelude.{ℕ, List, ◌++◌}
-use Rattle.refusal.specs.declared.Answer.{Answer}
+use Rattle.refusal.specs.Answers.{Answer}
 use Rattle.rule.specs.Rule.{Fit}
 use Rattle.rule.specs.Fits.{fit_of}
 use Rattle.rule.specs.Sizes.{limits}

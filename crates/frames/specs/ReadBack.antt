@@ -1,5 +1,5 @@
 -- Reading back an answer gives the report and the coefficients that were written. Assumes nothing.
-use Rattle.std.specs.Prelude.{◌≡◌, refl, List, [], ◌∷◌, ◌++◌, ℕ, suc, ◌+◌, ◌*◌, ◌^◌, ◌≤◌, ◌<◌, T, length, take, drop, Float}
+use Rattle.std.specs.Prelude.{Ok, Some, ◌≡◌, refl, List, [], ◌∷◌, ◌++◌, ℕ, suc, ◌+◌, ◌*◌, ◌^◌, ◌<◌, T, length, take, drop, Float}
 use Rattle.std.proofs.Common.{ap, ◌∙◌, append_assoc, arith, lit<, length-append, length-take-le}
 use Rattle.std.proofs.Math.Seq.{split_at, append_snoc}
 use Rattle.std.specs.Float.{nan, binary64}
@@ -23,8 +23,6 @@ use Rattle.frames.specs.Exchange.{checked, fit_asked, fit_lines, answer_of}
 use Rattle.frames.specs.Cases.{answer_good, was_accepted}
 use Rattle.writer.specs.Lines.{lines_append, length_lines, length_report}
 use Rattle.frames.specs.InDigits.{refits_within, kept_within, term_within}
-use Rattle.reader.specs.declared.inner.header.Head.TheVariants.{Good}
-use Rattle.refusal.specs.declared.Answer.TheVariants.{Done}
 
 -- what the digits of an answer say of a fit
 pub record Says (a : List ℕ) (f : Fit) : Type 0 where
@@ -89,8 +87,8 @@ unfolding fit_asked
 error_in_format s task = error_fits task _ _
 
 -- the answer to an accepted input says its fit: the stop, the refits, the kept word, the refused term, the squared error, and each coefficient, a NaN as a NaN
-pub answer_read_back : (s : List ℕ) (task : Task) → head_of s ≡ Good task → checked s task ≡ Done → Says (answer_of s) (fit_asked s task)
+pub answer_read_back : (s : List ℕ) (task : Task) → head_of s ≡ Some task → checked s task ≡ Ok tt → Says (answer_of s) (fit_asked s task)
 unfolding answer_lines
 answer_read_back s task e c =
     let ok = was_accepted s task c in
-    rw (answer_good s task Done e c) (lines_read_back (fit_asked s task) (refits_within s task ok) (kept_within s task ok) (term_within s task ok) (error_in_format s task) (coefficients_in_format s task))
+    rw (answer_good s task (Ok tt) e c) (lines_read_back (fit_asked s task) (refits_within s task ok) (kept_within s task ok) (term_within s task ok) (error_in_format s task) (coefficients_in_format s task))

@@ -1,5 +1,5 @@
 -- Numbers and f64 bits as lowercase hex digits, the high digit first. Assumes nothing.
-use Rattle.std.specs.Prelude.{ℕ, zero, suc, ◌+◌, ◌-◌, ◌*◌, ◌/◌, ◌%◌, ◌≤◌, ◌≡◌, Bool, true, cond, List, [], ◌∷◌, ◌++◌, ltb, leb, length, get_or, Float}
+use Rattle.std.specs.Prelude.{ℕ, zero, suc, ◌+◌, ◌-◌, ◌*◌, ◌/◌, ◌%◌, ◌≤◌, ◌≡◌, Bool, true, cond, Option, None, Some, List, [], ◌∷◌, ◌++◌, ltb, leb, length, get_or, Float}
 use Rattle.std.specs.Float.{binary64}
 use Rattle.std.specs.Float.Ieee.{to_bits, is_nan}
 use Rattle.steps.specs.Num.{lit}
@@ -8,6 +8,10 @@ use Rattle.hexdigits.specs.All.{all}
 -- the value of a digit, 0 to 9 and a to f; 16 for a byte that is no digit
 unfoldable pub value : ℕ → ℕ
 value b = cond (ltb b 48) 16 (cond (leb b 57) (b - 48) (cond (ltb b 97) 16 (cond (leb b 102) (b - 87) 16)))
+
+-- the same, if the byte is a digit
+unfoldable pub digit : ℕ → Option ℕ
+digit b = cond (ltb (value b) 16) (Some (value b)) None
 
 -- the digit of a value below 16
 unfoldable pub glyph : ℕ → ℕ

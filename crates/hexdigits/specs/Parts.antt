@@ -20,6 +20,11 @@ module _ (s : List ℕ) (a : ℕ) where
   unfolding all_hex
   hex_end g h k = all_end _ g h k
 
+  -- where each byte is a digit, all are
+  pub hex_each : (n : ℕ) → ((k : ℕ) → k < n → value (get_or s (a + k) 0) < 16) → all_hex s a n ≡ true
+  unfolding all_hex
+  hex_each n h = all_each _ n (λ k l. lt-ltb _ 16 (h k l))
+
   -- a byte that is no digit
   pub hex_not : (i n : ℕ) → i < n → 16 ≤ value (get_or s (a + i) 0) → all_hex s a n ≡ false
   unfolding all_hex

@@ -1,11 +1,9 @@
 -- The three ways out of a column's step, from what its steps gave. Assumes nothing.
-use mathlib.Core.Path.{◌≡◌, sym, ap, ◌∙◌}
-use mathlib.Core.Bool.{true, false}
-use mathlib.Core.List.{List}
-use Prim.Native.Nat.{ℕ, ◌≤◌, ◌<◌}
-use native.Mathlib.Omega.{arith}
-use lib.ListN.{replicate, get_or-replicate}
-use lib.Ieee.{Float, nan, lt}
+use Rattle.std.specs.Prelude.{◌≡◌, true, false, List, ℕ, ◌≤◌, ◌<◌, replicate, Float}
+use Rattle.std.proofs.Common.{sym, ap, ◌∙◌, arith}
+use Rattle.std.proofs.lemmas.List.{get_or-replicate}
+use Rattle.std.specs.Float.{nan}
+use Rattle.std.specs.Float.Ieee.{lt}
 use Rattle.steps.specs.Num.{plus, times, over, +zero, -zero, two, 1e-15, 1e-30, at, cell}
 use Rattle.steps.specs.Sums.{sum_none}
 use Rattle.steps.specs.Wrote.{Wrote}

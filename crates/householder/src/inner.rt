@@ -112,9 +112,8 @@ fn each_column(a: &mut [f64], b: &mut [f64], m: usize, n: usize)
     requires { (Whole m n a.old) × (length b.old ≡ n) }
     ensures { (a.new ≡ after m n a.old n) × (b.new ≡ betas m n a.old) }
 {
-    for j in 0..n {
-        let beta = qr_column(a, m, n, j);
-        b[j] = beta;
+    for (j, beta) in b.iter_mut().enumerate() {
+        *beta = qr_column(a, m, n, j);
     }
 }
 

@@ -1,14 +1,11 @@
 -- A matrix by its columns: a row written anew, the unit columns, and the whole. Assumes nothing.
-use mathlib.Core.Path.{◌≡◌, sym, ap, ◌∙◌, subst}
+use Rattle.std.specs.Prelude.{◌≡◌, List, ℕ, ◌+◌, ◌*◌, ◌<◌, length, set, replicate, Float}
+use Rattle.std.proofs.Common.{sym, ap, ◌∙◌, subst, arith, length-set, get_or-set_same, get_or-set_other}
+use Rattle.std.proofs.Math.Arith.{digits_lt}
+use Rattle.std.proofs.lemmas.List.{length-replicate, get_or-replicate}
+use Rattle.std.specs.Float.{nan}
 use mathlib.Core.Logic.{dite}
-use mathlib.Core.List.{List}
-use Prim.Native.Nat.{ℕ, ◌+◌, ◌*◌, ◌<◌}
-use native.Mathlib.Omega.{arith}
 use native.Mathlib.Decide.{ℕ_discrete}
-use lib.Arith.{digits_lt}
-use lib.ListN.{length, set, replicate, length-set, length-replicate, get_or-replicate}
-use lib.Seq.{get_or-set_same, get_or-set_other}
-use lib.Ieee.{Float, nan}
 use Rattle.steps.specs.Num.{+zero, one, at, cell}
 use Rattle.steps.specs.Table.{length_tab, get_or_tab, is_tab, is_table}
 use Rattle.steps.specs.Wrote.{Wrote, off_diagonal}

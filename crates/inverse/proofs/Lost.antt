@@ -1,10 +1,6 @@
 -- A row that loses the products of other rows, one after the other: what that is in each column. Assumes nothing.
-use mathlib.Core.Path.{◌≡◌, refl, sym, ap, ◌∙◌}
-use mathlib.Core.List.{List}
-use Prim.Native.Nat.{ℕ, ◌+◌, ◌*◌, ◌≤◌, ◌<◌}
-use native.Mathlib.Omega.{arith}
-use lib.ListN.{length, set}
-use lib.Ieee.{Float}
+use Rattle.std.specs.Prelude.{◌≡◌, List, ℕ, ◌+◌, ◌*◌, ◌≤◌, ◌<◌, length, set, Float}
+use Rattle.std.proofs.Common.{refl, sym, ap, ◌∙◌, arith}
 use Rattle.steps.specs.Num.{less, times, over, at, cell}
 use Rattle.steps.specs.Sums.{less_sum, less_sum_none, less_sum_more, less_sum_end}
 use Rattle.inverse.specs.ByColumns.{down_column, ByColumns, WithRow}

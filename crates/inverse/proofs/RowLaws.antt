@@ -1,9 +1,6 @@
 -- A row of a matrix that is written anew, from left to right. Assumes nothing.
-use mathlib.Core.Path.{◌≡◌, ◌∙◌}
-use mathlib.Core.List.{List}
-use Prim.Native.Nat.{ℕ, ◌+◌, ◌*◌, ◌<◌}
-use native.Mathlib.Omega.{arith}
-use lib.Ieee.{Float}
+use Rattle.std.specs.Prelude.{◌≡◌, List, ℕ, ◌+◌, ◌*◌, ◌<◌, Float}
+use Rattle.std.proofs.Common.{◌∙◌, arith}
 use Rattle.steps.specs.Num.{cell}
 use Rattle.steps.specs.Table.{same_cell}
 use Rattle.steps.specs.Wrote.{Wrote}

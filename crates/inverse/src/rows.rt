@@ -4,7 +4,7 @@ ghost use Rattle.steps.specs.Num.{less, times, over, cell};
 ghost use Rattle.cholesky.specs.Cholesky.{forward_at, back_at, chol_forward, chol_back};
 ghost use Rattle.inverse.specs.ByColumns.{down_column, ByColumns, WithRow};
 
-use slices::inner::cell;
+use slices::inner::Square;
 
 // Row i loses f times row k.
 fn less_row(x: &mut [f64], n: usize, i: usize, k: usize, f: f64)
@@ -30,45 +30,43 @@ fn over_row(x: &mut [f64], n: usize, i: usize, d: f64)
 }
 
 // Row i of forward substitution.
-fn forward_row(l: &[f64], x: &mut [f64], n: usize, i: usize)
-    requires { (length l.now ≡ n * n) × (length x.old ≡ n * n) × (i < n) }
-    ensures { ByColumns n (λ j. set (down_column n x.old j) i (forward_at n l.now i (down_column n x.old j))) x.new }
+fn forward_row(l: Square, x: &mut [f64], i: usize)
+    requires { (length x.old ≡ l.n * l.n) × (i < l.n) }
+    ensures { ByColumns l.entry.n (λ j. set (down_column l.entry.n x.old j) i (forward_at l.entry.n l.entry.numbers.now i (down_column l.entry.n x.old j))) x.new }
 {
     for k in 0..i {
-        less_row(x, n, i, k, cell(l, n, i, k));
+        less_row(x, l.n, i, k, l.at(i, k));
     }
-    over_row(x, n, i, cell(l, n, i, i));
+    over_row(x, l.n, i, l.at(i, i));
 }
 
 // Row i of back substitution.
-fn back_row(l: &[f64], x: &mut [f64], n: usize, i: usize)
-    requires { (length l.now ≡ n * n) × (length x.old ≡ n * n) × (i < n) }
-    ensures { ByColumns n (λ j. set (down_column n x.old j) i (back_at n l.now i (down_column n x.old j))) x.new }
+fn back_row(l: Square, x: &mut [f64], i: usize)
+    requires { (length x.old ≡ l.n * l.n) × (i < l.n) }
+    ensures { ByColumns l.entry.n (λ j. set (down_column l.entry.n x.old j) i (back_at l.entry.n l.entry.numbers.now i (down_column l.entry.n x.old j))) x.new }
 {
-    for k in i + 1..n {
-        less_row(x, n, i, k, cell(l, n, k, i));
+    for k in i + 1..l.n {
+        less_row(x, l.n, i, k, l.at(k, i));
     }
-    over_row(x, n, i, cell(l, n, i, i));
+    over_row(x, l.n, i, l.at(i, i));
 }
 
 // Forward substitution of each column.
-pub fn forward_rows(l: &[f64], x: &mut [f64], n: usize)
-    requires { (length l.now ≡ n * n) × (length x.old ≡ n * n) }
-    ensures { ByColumns n (λ j. chol_forward n l.now (down_column n x.old j)) x.new }
+pub fn forward_rows(l: Square, x: &mut [f64])
+    requires { length x.old ≡ l.n * l.n }
+    ensures { ByColumns l.entry.n (λ j. chol_forward l.entry.n l.entry.numbers.now (down_column l.entry.n x.old j)) x.new }
 {
-    for i in 0..n {
-        forward_row(l, x, n, i);
+    for i in 0..l.n {
+        forward_row(l, x, i);
     }
 }
 
 // Back substitution of each column.
-pub fn back_rows(l: &[f64], x: &mut [f64], n: usize)
-    requires { (length l.now ≡ n * n) × (length x.old ≡ n * n) }
-    ensures { ByColumns n (λ j. chol_back n l.now (down_column n x.old j)) x.new }
+pub fn back_rows(l: Square, x: &mut [f64])
+    requires { length x.old ≡ l.n * l.n }
+    ensures { ByColumns l.entry.n (λ j. chol_back l.entry.n l.entry.numbers.now (down_column l.entry.n x.old j)) x.new }
 {
-    let mut i = n;
-    while i > 0 {
-        i -= 1;
-        back_row(l, x, n, i);
+    for i in (0..l.n).rev() {
+        back_row(l, x, i);
     }
 }

@@ -1,2 +1,2 @@
--- Laws of back substitution inside one slice. Assumes nothing.
+-- Laws of back substitution. Assumes nothing.
 mod Back

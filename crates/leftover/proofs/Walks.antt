@@ -4,11 +4,10 @@ use mathlib.Core.List.{List}
 use Prim.Native.Nat.{ℕ, ◌+◌, ◌<◌}
 use native.Mathlib.Nat.{add-zero}
 use native.Mathlib.Omega.{arith}
-use lib.ListN.{get_or}
+use lib.ListN.{get_or, replicate, get_or-replicate}
 use lib.Ieee.{Float}
 use Rattle.steps.specs.Num.{plus, less, times, +zero, at, Entry}
 use Rattle.steps.specs.Sums.{sum, sum_none, sum_more, sum_cong, sum_on}
-use Rattle.steps.specs.Space.{cleared, at_cleared}
 use Rattle.steps.specs.Wrote.{Wrote}
 use Rattle.places.specs.Columns.{listed}
 use Rattle.leftover.specs.Error.{products, RowSums, leftover, square, squares, listed_coeffs}
@@ -66,18 +65,18 @@ module _ (k : ℕ) (e : Entry) (t cs : ℕ → Float) where
 
 -- the sums of h rows side by side: before the first term, after one more, and their squares
 module _ (e : Entry) (cs : ℕ → Float) (i h : ℕ) where
-  pub sums_none : (s : List Float) → RowSums 0 e cs i h (cleared h s)
-  sums_none s = record { each = λ m l. at_cleared h m s l ∙ products_none (e (i + m)) cs }
+  pub sums_none : (s : List Float) → s ≡ replicate h +zero → RowSums 0 e cs i h s
+  sums_none s q = record { each = λ m l. rw (q, get_or-replicate) (products_none (e (i + m)) cs) }
 
   pub sums_more : (p : ℕ) (s s' : List Float) (column : ℕ → Float) {x : Float} → RowSums p e cs i h s → Wrote (λ m. m) 0 h (λ m. plus (at s m) (times (column m) x)) s s'
       → ((m : ℕ) → column m ≡ e (i + m) p) → x ≡ cs p → RowSums (p + 1) e cs i h s'
   sums_more p s s' column was w is_column is_x = record { each = λ m l. w.done m (omega arith) l ∙ products_more (e (i + m)) cs p (was.each m l) (is_column m) is_x }
 
-  pub page_more : (k : ℕ) (t : ℕ → Float) (s : List Float) {z r : Float} → RowSums k e cs i h s → z ≡ squares i k e t cs → r ≡ sum z 0 h (λ m. square (less (t (i + m)) (at s m)))
-      → r ≡ squares (i + h) k e t cs
+  pub page_more : (k : ℕ) (t : ℕ → Float) (ts s : List Float) {z r : Float} → RowSums k e cs i h s → ((m : ℕ) → m < h → at ts m ≡ t (i + m)) → z ≡ squares i k e t cs
+      → r ≡ sum z 0 h (λ m. square (less (at ts m) (at s m))) → r ≡ squares (i + h) k e t cs
   unfolding squares leftover
-  page_more k t s {z} o p q =
+  page_more k t ts s {z} o g p q =
       q
-      ∙ sum_cong z 0 h _ _ (λ m a l. ap (λ (x : Float). square (less (t (i + m)) x)) (o.each m l))
+      ∙ sum_cong z 0 h _ _ (λ m a l. ap₂ (λ (x y : Float). square (less x y)) (g m l) (o.each m l))
       ∙ ap (λ (x : Float). sum x 0 h (λ m. square (leftover k e t cs (i + m)))) p
       ∙ sym (sum_on +zero i h _)

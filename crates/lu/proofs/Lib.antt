@@ -1,2 +1,3 @@
 -- The ways out of the solve. Assumes nothing.
 mod Ends
+mod Swaps

@@ -5,7 +5,7 @@ ghost use Rattle.lu.specs.Lu.{Pivots, swap_rows, lu_swap, less_row, eliminated, 
 
 use float64::abs;
 use refusal::Solved;
-use slices::inner::{cell, put, row_sum, swap};
+use slices::inner::{Square, cell, put};
 
 // The pivot's magnitude and its row.
 #[derive(Clone, Copy)]
@@ -15,14 +15,14 @@ struct Pivot {
 }
 
 // The first row of greatest magnitude from the diagonal down.
-fn find_pivot(a: &[f64], n: usize, k: usize) -> Pivot
-    requires { (length a.now ≡ n * n) × (k < n) }
-    ensures { Pivots n a.now k result.row result.size }
+fn find_pivot(a: Square, k: usize) -> Pivot
+    requires { k < a.n }
+    ensures { Pivots a.entry.n a.entry.numbers.now k result.row result.size }
 {
-    let mut size = abs(cell(a, n, k, k));
+    let mut size = abs(a.at(k, k));
     let mut row = k;
-    for i in k + 1..n {
-        let v = abs(cell(a, n, i, k));
+    for i in k + 1..a.n {
+        let v = abs(a.at(i, k));
         if size < v {
             size = v;
             row = i;
@@ -37,7 +37,7 @@ fn swap_rows(a: &mut [f64], n: usize, k: usize, r: usize)
     ensures { a.new ≡ swap_rows n k r a.old }
 {
     for j in 0..n {
-        swap(a, k * n + j, r * n + j);
+        a.swap(k * n + j, r * n + j);
     }
 }
 
@@ -46,11 +46,10 @@ fn swap_both(a: &mut [f64], b: &mut [f64], n: usize, k: usize, r: usize)
     requires { (length a.old ≡ n * n) × (length b.old ≡ n) × (k < n) × (r < n) }
     ensures { (a.new, b.new) ≡ lu_swap n k r (a.old, b.old) }
 {
-    if r == k {
-        return;
+    if r != k {
+        swap_rows(a, n, k, r);
+        b.swap(k, r);
     }
-    swap_rows(a, n, k, r);
-    swap(b, k, r);
 }
 
 // The rest of row i less factor times row k.
@@ -82,14 +81,13 @@ fn lu_column(a: &mut [f64], b: &mut [f64], n: usize, k: usize) -> Solved
     requires { (length a.old ≡ n * n) × (length b.old ≡ n) × (k < n) }
     ensures { told result (a.new, b.new) ≡ lu_column n k (a.old, b.old) }
 {
-    let p = find_pivot(a, n, k);
-    let row = p.row;
-    if p.size < 1e-15 {
-        return Solved::Refused(k);
+    let pivot = find_pivot(Square { n, numbers: a }, k);
+    if pivot.size < 1e-15 {
+        return Err(k);
     }
-    swap_both(a, b, n, k, row);
+    swap_both(a, b, n, k, pivot.row);
     eliminate(a, n, k);
-    Solved::Done
+    Ok(())
 }
 
 // The factors; b's entries move with the rows.
@@ -98,35 +96,29 @@ fn lu_factor(a: &mut [f64], b: &mut [f64], n: usize) -> Solved
     ensures { told result (a.new, b.new) ≡ lu_factor n a.old b.old }
 {
     for k in 0..n {
-        let column = lu_column(a, b, n, k);
-        let Solved::Done = column else {
-            return column;
-        };
+        lu_column(a, b, n, k)?;
     }
-    Solved::Done
+    Ok(())
 }
 
 // Forward substitution, with ones on the diagonal.
-fn lu_forward(a: &[f64], b: &mut [f64], n: usize)
-    requires { (length a.now ≡ n * n) × (length b.old ≡ n) }
-    ensures { b.new ≡ lu_forward n a.now b.old }
+fn lu_forward(a: Square, b: &mut [f64])
+    requires { length b.old ≡ a.n }
+    ensures { b.new ≡ lu_forward a.entry.n a.entry.numbers.now b.old }
 {
-    for i in 0..n {
-        let s = row_sum(a, b, n, i, 0, i);
-        b[i] = s;
+    for i in 0..a.n {
+        b[i] = a.row_sum(b, i, 0, i);
     }
 }
 
 // Back substitution.
-fn lu_back(a: &[f64], b: &mut [f64], n: usize)
-    requires { (length a.now ≡ n * n) × (length b.old ≡ n) }
-    ensures { b.new ≡ lu_back n a.now b.old }
+fn lu_back(a: Square, b: &mut [f64])
+    requires { length b.old ≡ a.n }
+    ensures { b.new ≡ lu_back a.entry.n a.entry.numbers.now b.old }
 {
-    let mut i = n;
-    while i > 0 {
-        i -= 1;
-        let s = row_sum(a, b, n, i, i + 1, n);
-        b[i] = s / cell(a, n, i, i);
+    for i in (0..a.n).rev() {
+        let s = a.row_sum(b, i, i + 1, a.n);
+        b[i] = s / a.at(i, i);
     }
 }
 
@@ -135,11 +127,9 @@ pub fn lu(a: &mut [f64], b: &mut [f64], n: usize) -> Solved
     requires { (length a.old ≡ n * n) × (length b.old ≡ n) }
     ensures { told result (a.new, b.new) ≡ lu n a.old b.old }
 {
-    let factored = lu_factor(a, b, n);
-    let Solved::Done = factored else {
-        return factored;
-    };
-    lu_forward(a, b, n);
-    lu_back(a, b, n);
-    Solved::Done
+    lu_factor(a, b, n)?;
+    let factors = Square { n, numbers: a };
+    lu_forward(factors, b);
+    lu_back(factors, b);
+    Ok(())
 }

@@ -6,17 +6,17 @@ ghost use Rattle.normal.specs.Normal.{normal};
 use cholesky::inner::cholesky;
 use lu::inner::lu;
 use refusal::Solved;
-use slices::inner::copy;
+use slices::inner::Square;
 
-// The copy is made in ws, of n * n numbers.
-pub fn normal_equations(a: &[f64], b: &mut [f64], n: usize, ws: &mut [f64]) -> Solved
-    requires { (length a.now ≡ n * n) × (length b.old ≡ n) × (length ws.old ≡ n * n) }
-    ensures { told result b.new ≡ normal n a.now b.old }
+// The copy is made in ws, of as many numbers as a.
+pub fn normal_equations(a: Square, b: &mut [f64], ws: &mut [f64]) -> Solved
+    requires { (length b.old ≡ a.n) × (length ws.old ≡ a.n * a.n) }
+    ensures { told result b.new ≡ normal a.entry.n a.entry.numbers.now b.old }
 {
-    copy(a, ws);
-    let Solved::Done = cholesky(ws, b, n) else {
-        copy(a, ws);
-        return lu(ws, b, n);
-    };
-    Solved::Done
+    ws.copy_from_slice(a.numbers);
+    if cholesky(ws, b, a.n).is_err() {
+        ws.copy_from_slice(a.numbers);
+        return lu(ws, b, a.n);
+    }
+    Ok(())
 }

@@ -1,103 +1,57 @@
 // F8 and the sizes of the fits.
-ghost use Rattle.std.specs.Prelude.{◌≤◌, length};
+ghost use Rattle.std.specs.Prelude.{◌≤◌};
+ghost use Rattle.rule.specs.declared.Solver.{Solver};
 
 use super::say;
 use hexdigits::inner::bits;
-use rule::{Fitted, Setup, Solver};
+use places::Layout;
+use refusal::{Refusal, answer_number};
+use rule::{Report, Setup, Solver, Task, stop_code};
+use strlsq::strlsq;
 
 const NAN: u64 = 0x7ff8_0000_0000_0000;
 
 // Whether a fit reports so.
-fn reports(f: Fitted, stop: u64, refits: usize, kept: u64) -> bool {
-    match f {
-        Fitted::Fit(r) => {
-            let s = r.stop;
-            let k = r.kept;
-            rule::stop_code(s) == stop && r.refits == refits && k.0 == kept
-        }
-        Fitted::Refused(_w) => false,
+fn reports(fitted: Result<Report, Refusal>, stop: u64, refits: usize, kept: u64) -> bool {
+    fitted.is_ok_and(|r| stop_code(r.stop) == stop && r.refits == refits && r.kept.0 == kept)
+}
+
+// A task of one row.
+fn task(solver: Solver, cols: usize, threshold: f64, lambda: f64, max_iter: usize) -> Task {
+    Task {
+        solver,
+        layout: Layout::ByRows,
+        rows: 1,
+        cols,
+        setup: Setup {
+            threshold,
+            lambda,
+            max_iter,
+        },
     }
 }
 
 // F8: theta 1, target NaN, threshold 0.5.
 fn f8(max_iter: usize, stop: u64, coefficient: u64) -> bool {
-    let theta = [1.0];
-    let target = [0.0 / 0.0];
+    let task = task(Solver::Normal, 1, 0.5, 0.0, max_iter);
     let mut coeffs = [7.0];
-    let mut workspace = [7.0; 5];
-    let setup = Setup {
-        threshold: 0.5,
-        lambda: 0.0,
-        max_iter,
-    };
-    let f = strlsq::strlsq(&theta, 1, 1, &target, setup, &mut coeffs, &mut workspace);
-    reports(f, stop, 0, 0) && bits(coeffs[0]) == coefficient
-}
-
-// A fit of one row, its theta, coefficients and workspace at the head of slices that may be longer.
-fn fit_row(
-    solver: Solver,
-    theta: &[f64],
-    n_cols: usize,
-    setup: Setup,
-    coeffs: &mut [f64],
-    workspace: &mut [f64],
-    room: usize,
-) -> Fitted
-    requires { (n_cols ≤ length theta.now) × (n_cols ≤ length coeffs.old) × (room ≤ length workspace.old) }
-{
-    let target = [1.0];
-    match solver {
-        Solver::Normal => strlsq::strlsq(
-            &theta[0..n_cols],
-            1,
-            n_cols,
-            &target,
-            setup,
-            &mut coeffs[0..n_cols],
-            &mut workspace[0..room],
-        ),
-        Solver::Qr => strlsq::strlsq_qr(
-            &theta[0..n_cols],
-            1,
-            n_cols,
-            &target,
-            setup,
-            &mut coeffs[0..n_cols],
-            &mut workspace[0..room],
-        ),
-        Solver::Marquardt => strlsq::strlsq_marquardt(
-            &theta[0..n_cols],
-            1,
-            n_cols,
-            &target,
-            setup,
-            &mut coeffs[0..n_cols],
-            &mut workspace[0..room],
-        ),
-    }
+    let fitted = strlsq(task, &[1.0], &[f64::NAN], &mut coeffs, &mut [7.0; 5]);
+    reports(fitted, stop, 0, 0) && bits(coeffs[0]) == coefficient
 }
 
 // A fit of a row of ones, with a workspace of so many numbers.
-fn fit_ones(solver: Solver, n_cols: usize, max_iter: usize, room: usize) -> Fitted
-    requires { (n_cols ≤ 65) × (room ≤ 12805) }
+fn fit_ones(solver: Solver, cols: usize, max_iter: usize, room: usize) -> Result<Report, Refusal>
+    requires { (cols ≤ 65) × (room ≤ 12805) }
 {
     let theta = [1.0; 65];
     let mut coeffs = [7.0; 65];
     let mut workspace = [7.0; 12805];
-    let setup = Setup {
-        threshold: 0.0,
-        lambda: 1.0,
-        max_iter,
-    };
-    fit_row(
-        solver,
-        &theta,
-        n_cols,
-        setup,
-        &mut coeffs,
-        &mut workspace,
-        room,
+    strlsq(
+        task(solver, cols, 0.0, 1.0, max_iter),
+        &theta[..cols],
+        &[1.0],
+        &mut coeffs[..cols],
+        &mut workspace[..room],
     )
 }
 
@@ -109,40 +63,48 @@ fn passes(solver: Solver, room: usize) -> bool
 }
 
 // The number with which such a fit is refused.
-fn refused(solver: Solver, n_cols: usize, max_iter: usize, room: usize) -> u64
-    requires { (n_cols ≤ 65) × (room ≤ 12805) }
+fn refused(solver: Solver, cols: usize, max_iter: usize, room: usize) -> u64
+    requires { (cols ≤ 65) × (room ≤ 12805) }
 {
-    rule::fitted_number(fit_ones(solver, n_cols, max_iter, room))
+    answer_number(fit_ones(solver, cols, max_iter, room))
+}
+
+// Whether each solver passes a test: two with one workspace, QR with another.
+fn each<F: Fn(Solver, usize) -> bool>(room: usize, by_qr: usize, test: F) -> bool
+    requires { (solver : Solver) → F.pre test solver room × F.pre test solver by_qr }
+{
+    test(Solver::Normal, room) && test(Solver::Marquardt, room) && test(Solver::Qr, by_qr)
 }
 
 // The sizes: what the fits take, and one more. 64 columns need 12,416 numbers at any row count, by QR 8,707 of one row.
 fn sizes(rt: &impl Print) {
-    let normal = passes(Solver::Normal, 12416) && passes(Solver::Marquardt, 12416);
-    say(
-        rt,
-        b"64 columns, max_iter 1,000",
-        normal && passes(Solver::Qr, 8707),
-    );
-    let normal = refused(Solver::Normal, 65, 1000, 12805) == 1
-        && refused(Solver::Marquardt, 65, 1000, 12805) == 1;
+    say(rt, b"64 columns, max_iter 1,000", each(12416, 8707, passes));
     say(
         rt,
         b"65 columns",
-        normal && refused(Solver::Qr, 65, 1000, 8973) == 1,
+        each(
+            12805,
+            8973,
+            |solver, room| refused(solver, 65, 1000, room) == 1,
+        ),
     );
-    let normal = refused(Solver::Normal, 64, 1001, 12416) == 3
-        && refused(Solver::Marquardt, 64, 1001, 12416) == 3;
     say(
         rt,
         b"max_iter 1,001",
-        normal && refused(Solver::Qr, 64, 1001, 8707) == 3,
+        each(
+            12416,
+            8707,
+            |solver, room| refused(solver, 64, 1001, room) == 3,
+        ),
     );
-    let normal = refused(Solver::Normal, 64, 1000, 12415) == 7
-        && refused(Solver::Marquardt, 64, 1000, 12415) == 7;
     say(
         rt,
         b"a workspace one short",
-        normal && refused(Solver::Qr, 64, 1000, 8706) == 7,
+        each(
+            12415,
+            8706,
+            |solver, room| refused(solver, 64, 1000, room) == 7,
+        ),
     );
 }
 

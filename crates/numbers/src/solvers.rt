@@ -1,20 +1,22 @@
 // C1 and C2, and the two traps that none of the replayed exchanges tells.
 use super::say;
 use hexdigits::inner::bits;
-use refusal::answer_number;
+use refusal::{Answer, answer_number};
+use solve::{solve_lu, solve_spd_cholesky};
 
-// The refusal of Cholesky of a 1 by 1 matrix, by its bits.
-fn cholesky_of(a: f64) -> u64 {
-    let mut matrix = [a];
-    let mut b = [1.0];
-    answer_number(solve::solve_spd_cholesky(&mut matrix, &mut b, 1))
+// The number of a solver's answer to a 1 by 1 matrix.
+fn number_of<F: FnOnce(&mut [f64], &mut [f64], usize) -> Answer>(solve: F, a: f64) -> u64
+    requires { F.IsAlwaysCallable solve }
+{
+    answer_number(solve(&mut [a], &mut [1.0], 1))
 }
 
-// That of LU.
+fn cholesky_of(a: f64) -> u64 {
+    number_of(solve_spd_cholesky, a)
+}
+
 fn lu_of(a: f64) -> u64 {
-    let mut matrix = [a];
-    let mut b = [1.0];
-    answer_number(solve::solve_lu(&mut matrix, &mut b, 1))
+    number_of(solve_lu, a)
 }
 
 // `qr` of two rows (1, -0.0): a sum that starts at +0.0 leaves -0.0 above the diagonal.
@@ -40,6 +42,6 @@ pub fn run(rt: &impl Print) {
         b"C2, the next f64 down",
         lu_of(9.999999999999999e-16) == 9,
     );
-    say(rt, b"Cholesky passes a NaN", cholesky_of(0.0 / 0.0) == 0);
+    say(rt, b"Cholesky passes a NaN", cholesky_of(f64::NAN) == 0);
     say(rt, b"sums of qr start at -0.0", qr_sums());
 }

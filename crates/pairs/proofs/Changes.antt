@@ -11,19 +11,15 @@ use lib.Seq.{get_or-set_same}
 use lib.Ieee.{Float, nan}
 use Rattle.steps.specs.Num.{cell}
 use Rattle.steps.specs.Table.{cell_other}
-use Rattle.pairs.specs.Grown.{with_rows, Fits, Change, Changed, Grew}
+use Rattle.pairs.specs.declared.page.Page.{Page}
+use Rattle.pairs.specs.Grown.{with_rows, Change, Changed, Grew}
 
 -- the page and the sums have room for each row
-module _ (n h : ℕ) (page out : List Float) (f : Fits n h page out) where
-  pub in_page : (i : ℕ) → i < h → (i + 1) * n ≤ length page
-  in_page i l = let z : i + 1 ≤ h = omega arith in omega (arith, f.room, mul-le-mul_right n z)
+pub in_page : (page : Page) (i : ℕ) → i < page.rows → (i + 1) * page.cols ≤ length page.numbers.now
+in_page page i l = let z : i + 1 ≤ page.rows = omega arith in omega (arith, page.room, mul-le-mul_right page.cols z)
 
-  pub in_square : (r : ℕ) → r ≤ n → r * n ≤ length out
-  in_square r l = omega (arith, f.square, mul-le-mul_right n l)
-
-  -- the same page for other sums of that size
-  pub fits_still : (out' : List Float) → length out' ≡ length out → Fits n h page out'
-  fits_still out' e = record { room = f.room; square = e ∙ f.square }
+pub in_square : (n : ℕ) (out : List Float) → length out ≡ n * n → (r : ℕ) → r ≤ n → r * n ≤ length out
+in_square n out e r l = omega (arith, mul-le-mul_right n l)
 
 module _ (f : Change) (n : ℕ) where
   -- no column, no row

@@ -1,12 +1,7 @@
 -- What each step of the walk leaves, by index, so that the order of the pairs is free. Only entries on and above the diagonal are spoken of. Assumes nothing.
-use Rattle.std.specs.Prelude.{◌≡◌, List, ℕ, ◌*◌, ◌≤◌, ◌<◌, length, Float}
+use Rattle.std.specs.Prelude.{◌≡◌, List, ℕ, ◌≤◌, ◌<◌, length, Float}
 use Rattle.steps.specs.Num.{times, Entry, cell}
 use Rattle.steps.specs.Sums.{sum}
-
--- a page of h rows and n columns, and the sums of its pairs
-pub record Fits (n h : ℕ) (page out : List Float) : Type 0 where
-  pub room : h * n ≤ length page
-  pub square : length out ≡ n * n
 
 -- what becomes of the entry at row r, column c
 abbrev pub Change : Type 0

@@ -4,3 +4,4 @@
 mod fours;
 pub mod inner;
 mod kernel;
+pub mod page;

@@ -3,3 +3,5 @@ pub mod Stored
 pub mod Down
 pub mod Columns
 pub mod ColumnLaws
+pub mod Theta
+pub mod ThetaLaws

@@ -1,9 +1,12 @@
 // A table lists the term number of each reduced place. It is read and written at a reduced place only, and theta by a term number only.
 ghost use Rattle.std.specs.Prelude.{◌≡◌, ℕ, ◌+◌, ◌*◌, ◌^◌, ◌≤◌, ◌<◌, length, get_or, set};
+ghost use Rattle.std.specs.Int.Count.{ones};
 ghost use Rattle.steps.specs.Num.{cell as cell_of};
 ghost use Rattle.steps.specs.Wrote.{Wrote};
-ghost use Rattle.places.specs.Columns.{Lists, Listed, listed};
+ghost use Rattle.places.specs.Columns.{Lists, listed};
+ghost use Rattle.places.specs.Theta.{by_rows};
 
+use crate::{Reduced, Theta};
 use slices::inner::{cell, put};
 use support::{Col, Support, Term};
 
@@ -12,8 +15,7 @@ fn put_term(terms: &mut [usize], col: Col, term_idx: Term)
     requires { col.0 < length terms.old }
     ensures { terms.new ≡ set terms.old col.0 term_idx.0 }
 {
-    let i = col.0;
-    terms[i] = term_idx.0;
+    terms[col.0] = term_idx.0;
 }
 
 // Lists the term number of each reduced place.
@@ -35,8 +37,7 @@ pub fn term_of(terms: &[usize], col: Col) -> Term
     requires { col.0 < length terms.now }
     ensures { result.0 ≡ get_or terms.now col.0 0 }
 {
-    let i = col.0;
-    Term(terms[i])
+    Term(terms[col.0])
 }
 
 // Row i of the column that has this term number, of theta or of the sums of its columns.
@@ -47,28 +48,13 @@ pub fn at_term(theta: &[f64], n_cols: usize, i: usize, term_idx: Term) -> f64
     cell(theta, n_cols, i, term_idx.0)
 }
 
-// Row i of the column of theta at a reduced place.
-pub fn at_place(
-    theta: &[f64],
-    n_rows: usize,
-    n_cols: usize,
-    terms: &[usize],
-    k: usize,
-    i: usize,
-    col: Col,
-) -> f64
-    requires { Listed n_rows n_cols k terms.now theta.now × (i < n_rows) × (col.0 < k) }
-    ensures { result ≡ listed terms.now (cell_of n_cols theta.now) i col.0 }
+// Of theta by rows: row i of the column at a reduced place.
+pub fn at_place(reduced: Reduced<'_>, i: usize, col: Col) -> f64
+    requires { (i < reduced.theta.rows) × (col.0 < length reduced.terms.now) }
+    ensures { result ≡ listed reduced.entry.terms.now (by_rows reduced.entry.theta) i col.0 }
 {
-    at_term(theta, n_cols, i, term_of(terms, col))
-}
-
-// The rows of the next page where this many are left and a page has at most so many.
-pub fn page_rows(left: usize, most: usize) -> usize
-    requires { (0 < left) × (0 < most) }
-    ensures { (0 < result) × (result ≤ left) × (result ≤ most) }
-{
-    if left < most { left } else { most }
+    let theta = reduced.theta;
+    at_term(theta.numbers, theta.cols, i, term_of(reduced.terms, col))
 }
 
 // Of theta by columns: row i of the column that has this term number.
@@ -96,5 +82,19 @@ pub fn take_column(
     for k in 0..h {
         let x = at_column(theta, n_rows, term_idx, i + k);
         put(page, width, k, first, x);
+    }
+}
+
+// Theta's columns that a support has, by reduced place: their term numbers go to a table that is lent for them.
+pub fn kept_columns<'a>(theta: Theta<'a>, support: Support, table: &'a mut [usize]) -> Reduced<'a>
+    requires { (support.0 < 2 ^ theta.cols) × (theta.cols ≤ length table.old) }
+    ensures theta { result.theta ≡ theta.entry }
+    ensures lists { Lists theta.entry.cols support.0 result.terms.now }
+    ensures long { length result.terms.now ≡ ones support.0 }
+{
+    list_terms(support, theta.cols, table);
+    Reduced {
+        theta,
+        terms: &table[..support.count()],
     }
 }

@@ -1,21 +1,20 @@
 -- Where the frames stand, and what formed ones have. Assumes nothing.
-use mathlib.Core.Path.{◌≡◌}
-use mathlib.Core.Bool.{true, false}
+use mathlib.Core.Path.{◌≡◌, ◌∙◌, subst}
+use mathlib.Core.Bool.{Bool, true, false}
+use Rattle.std.specs.Bool.{MatchBool}
+use Rattle.std.specs.List.{AllWithin, HoldsAt, range_with_len}
+use Rattle.std.proofs.lemmas.List.FromFn.{length-range_with_len, get_or-range_with_len}
 use mathlib.Core.List.{List}
-use Prim.Native.Nat.{ℕ, ◌+◌, ◌*◌, ◌≤◌, ◌<◌}
-use native.Mathlib.Nat.{mul-le-mul}
+use Prim.Native.Nat.{ℕ, ◌+◌, ◌≤◌, ◌<◌}
+use native.Mathlib.Nat.{zero-add}
 use native.Mathlib.Omega.{arith}
 use borrow.Author.Tests.{eqb-true, eq-eqb}
 use lib.Dec.{eqb}
 use lib.ListN.{length}
 use Rattle.steps.specs.Table.{row_fits}
-use Rattle.hexdigits.specs.All.{all, all_at, all_not, all_end, and_both}
+use Rattle.hexdigits.specs.All.{all_at, all_not, all_each, and_both}
 use Rattle.hexdigits.specs.Hex.{all_hex, Digits}
-use Rattle.reader.specs.Frames.{frame_at, frame_formed, frames_formed, FewFrames, Formed}
-
--- a frame begins within the longest input
-pub frame_most : {k width : ℕ} → FewFrames k width → k * (width + 1) ≤ 128 * 2049
-frame_most {k} {width} f = let w : width + 1 ≤ 2049 = omega (arith, f.digits) in mul-le-mul f.frames w
+use Rattle.reader.specs.Frames.{frame_at, frame_formed, frames_formed, Formed}
 
 -- a frame ends before the next one begins
 pub frame_within : (count width k : ℕ) → k < count → frame_at width k + width + 1 ≤ frame_at width count
@@ -30,12 +29,20 @@ frame_has {s} {count} {width} k f h =
     let frame = and_both (all_hex s (frame_at width k) width) _ (all_at (frame_formed s width) count k long.1 h) in
     record { within = omega (arith, eqb-true (length s) (frame_at width count) long.0, frame_within count width k h); good = frame.0 }
 
--- what the loop over the frames finds: one that is not formed, or none
-module _ (s : List ℕ) (count width k : ℕ) (long : length s ≡ frame_at width count) where
-  pub frames_not : k < count → frame_formed s width k ≡ false → false ≡ frames_formed s count width
-  unfolding frames_formed
-  frames_not h e = simp (eq-eqb _ _ long, all_not (frame_formed s width) k count h e)
+-- so it has room where its test looks
+pub frame_fits : (s : List ℕ) (width : ℕ) {count : ℕ} → length s ≡ frame_at width count → (k : ℕ) → k < count → (k ≤ count) × (frame_at width k + width < length s)
+frame_fits s width {count} long k h = (omega arith, omega (arith, frame_within count width k h))
 
-  pub frames_all : all (frame_formed s width) k ≡ true → k ≤ count → count ≤ k → true ≡ frames_formed s count width
-  unfolding frames_formed
-  frames_all a h l = simp (eq-eqb _ _ long, all_end (frame_formed s width) {n = count} a h l)
+-- what a search for a frame that is not formed answers
+pub frames_answer : (s : List ℕ) (count width : ℕ) (r : Bool) → length s ≡ frame_at width count
+    → MatchBool r (AllWithin (λ k. frame_formed s width k ≡ true) (range_with_len 0 count) 0 (length (range_with_len 0 count)))
+    ((k : ℕ) × (k < length (range_with_len 0 count)) × HoldsAt (λ k. frame_formed s width k ≡ false) (range_with_len 0 count) k)
+    → r ≡ frames_formed s count width
+unfolding frames_formed
+frames_answer s count width true long h =
+    let each = all_each (frame_formed s width) count (λ k l. subst (λ (i : ℕ). frame_formed s width i ≡ true) (get_or-range_with_len 0 count k 0 l ∙ zero-add k) (h k 0 (omega arith) (omega (arith, length-range_with_len 0 count)))) in
+    simp (eq-eqb _ _ long, each)
+frames_answer s count width false long h =
+    let below : h.0 < count = omega (arith, length-range_with_len 0 count, h.1) in
+    let not = subst (λ (i : ℕ). frame_formed s width i ≡ false) (get_or-range_with_len 0 count h.0 0 below ∙ zero-add h.0) (h.2 0) in
+    simp (eq-eqb _ _ long, all_not (frame_formed s width) h.0 count below not)

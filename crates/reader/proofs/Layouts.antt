@@ -10,47 +10,31 @@ use Rattle.steps.specs.Table.{tab, tab_cong, table, table_cong}
 use Rattle.places.specs.declared.Layout.{Layout}
 use Rattle.places.specs.declared.Layout.TheVariants.{ByRows, ByColumns}
 use Rattle.places.specs.Stored.{laid_out}
-use Rattle.reader.specs.Frames.{Formed}
-use Rattle.reader.specs.Numbers.{frame_count, frame_digits, frame_number, target, feature, PartOf}
+use Rattle.reader.specs.declared.inner.frames.Frames.{Frames}
+use Rattle.reader.specs.Numbers.{frame_digits, frame_number, target, feature}
 use Rattle.reader.proofs.NumberLaws.{one_each, one_frame}
 
-module _ (s : List ℕ) (layout : Layout) (rows cols width : ℕ) (wide : width ≡ frame_digits layout rows cols) where
+module _ (s : List ℕ) (layout : Layout) (rows cols : ℕ) (whole : Frames) (wide : whole.width ≡ frame_digits layout rows cols) where
   -- the numbers of a part as `read_part` reads them
   abbrev part : ℕ → ℕ → ℕ → ℕ → List Float
-  part first frames place each = table frames each (λ k j. frame_number s width (first + k) (place + j))
-
-  -- its frames are well formed
-  abbrev Fine : Type 0
-  Fine = Formed s (frame_count layout rows cols) (frame_digits layout rows cols)
+  part first frames place each = table frames each (λ k j. frame_number s whole.width (first + k) (place + j))
 
   module _ (told : layout ≡ ByRows) where
     -- by rows theta is all but the first number of each frame
-    pub theta_by_rows : Fine → PartOf s width 0 rows 1 cols
-    theta_by_rows f = let fine = rw told at f in rw (wide, told) (record { count = rows; formed = fine; there = omega arith; wide = omega arith })
-
     pub by_rows_theta : (theta : List Float) → take (rows * cols) theta ≡ part 0 rows 1 cols → take (rows * cols) theta ≡ laid_out layout rows cols (feature s layout rows cols)
     unfolding laid_out
     by_rows_theta theta e = e ∙ rw (wide, told) (table_cong rows cols _ _ (λ k j h l. rw (zero-add k)))
 
     -- and the target is that first number
-    pub target_by_rows : Fine → PartOf s width 0 rows 0 1
-    target_by_rows f = let fine = rw told at f in rw (wide, told) (record { count = rows; formed = fine; there = omega arith; wide = omega arith })
-
     pub by_rows_target : (t : List Float) → take (rows * 1) t ≡ part 0 rows 0 1 → take rows t ≡ tab rows (target s layout rows cols)
     by_rows_target t e = let n : rows * 1 ≡ rows = omega arith in rw n at e ∙ one_each rows _ ∙ rw (wide, told) (tab_cong rows _ _ (λ k h. rw (zero-add k)))
 
   module _ (told : layout ≡ ByColumns) where
     -- by columns theta is all frames but the first
-    pub theta_by_columns : Fine → PartOf s width 1 cols 0 rows
-    theta_by_columns f = let fine = rw told at f in rw (wide, told) (record { count = 1 + cols; formed = fine; there = omega arith; wide = omega arith })
-
     pub by_columns_theta : (theta : List Float) → take (cols * rows) theta ≡ part 1 cols 0 rows → take (rows * cols) theta ≡ laid_out layout rows cols (feature s layout rows cols)
     unfolding laid_out
     by_columns_theta theta e = rw (mul_comm cols rows) at e ∙ rw (wide, told) (table_cong cols rows _ _ (λ k j h l. rw (zero-add j)))
 
     -- and the target is that first frame
-    pub target_by_columns : Fine → PartOf s width 0 1 0 rows
-    target_by_columns f = let fine = rw told at f in rw (wide, told) (record { count = 1 + cols; formed = fine; there = omega arith; wide = omega arith })
-
     pub by_columns_target : (t : List Float) → take (1 * rows) t ≡ part 0 1 0 rows → take rows t ≡ tab rows (target s layout rows cols)
     by_columns_target t e = let n : 1 * rows ≡ rows = omega arith in rw n at e ∙ one_frame rows _ ∙ rw (wide, told) (tab_cong rows _ _ (λ j h. rw (zero-add j)))

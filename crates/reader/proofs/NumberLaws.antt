@@ -11,16 +11,10 @@ use lib.Ieee.{Float}
 use Rattle.steps.specs.Table.{tab, length_tab, tab_cong, table, filled, filled_more}
 use Rattle.hexdigits.specs.Hex.{Digits}
 use Rattle.hexdigits.specs.Parts.{part_digits}
-use Rattle.places.specs.declared.Layout.{Layout}
-use Rattle.places.specs.declared.Layout.TheVariants.{ByRows, ByColumns}
-use Rattle.reader.specs.Frames.{frame_at, FewFrames}
-use Rattle.reader.specs.Numbers.{frame_count, frame_digits, PartOf}
+use Rattle.reader.specs.Frames.{frame_at}
+use Rattle.reader.specs.declared.inner.frames.Frames.{Frames}
+use Rattle.reader.specs.Numbers.{PartOf}
 use Rattle.reader.proofs.FrameLaws.{frame_has}
-
--- few frames of few digits have few rows and columns, however theta is stored
-pub few_sizes : (layout : Layout) {rows cols : ℕ} → FewFrames (frame_count layout rows cols) (frame_digits layout rows cols) → (rows ≤ 128) × (cols ≤ 127)
-few_sizes ByRows few = (few.frames, omega (arith, few.digits))
-few_sizes ByColumns few = (omega (arith, few.digits), omega (arith, few.frames))
 
 -- the frame of a number, and its place there
 pub some_each : (frames each i : ℕ) → i < frames * each → 0 < each
@@ -29,12 +23,12 @@ some_each frames each i h = ⊎_elim (λ e. let z : frames * each ≡ 0 = ap (λ
 pub place_in : (frames each i : ℕ) → i < frames * each → (i / each < frames) × (i % each < each)
 place_in frames each i h = let some = some_each frames each i h in ((div-lt_iff_lt-mul some).1 h, mod-lt i some)
 
--- number j of frame k of a part: its frame is one of the few, and it has its digits there
-module _ {s : List ℕ} {width first frames place each : ℕ} (part : PartOf s width first frames place each) (k j : ℕ) (h : k < frames) (l : j < each) where
-  pub part_few : FewFrames (first + k) width
-  part_few = record { frames = omega (arith, part.there, part.formed.few.frames); digits = part.formed.few.digits }
+-- number j of frame k of a part: its frame is one of them all, and it has its digits there
+module _ {s : List ℕ} {whole : Frames} {first frames place each : ℕ} (part : PartOf s whole first frames place each) (k j : ℕ) (h : k < frames) (l : j < each) where
+  pub part_there : first + k ≤ whole.count
+  part_there = omega (arith, part.there)
 
-  pub part_has : Digits s (frame_at width (first + k) + 16 * (place + j)) 16
+  pub part_has : Digits s (frame_at whole.width (first + k) + 16 * (place + j)) 16
   part_has = part_digits _ 16 (frame_has (first + k) part.formed (omega (arith, part.there))) (omega arith) (omega (arith, part.wide))
 
 -- a loop that fills a slice in order: one more number, and the end

@@ -1,15 +1,11 @@
 -- The header's frame. Assumes nothing.
-use Rattle.std.specs.Prelude.{ℕ, ◌+◌, Bool, cond, ◌&&◌, List, leb, eqb, length, get_or}
+use Rattle.std.specs.Prelude.{None, Some, ℕ, ◌+◌, Bool, cond, ◌&&◌, List, leb, eqb, length, get_or, Option}
 use Rattle.hexdigits.specs.Hex.{all_hex, number_at, float, newline}
 use Rattle.places.specs.declared.Layout.{Layout}
 use Rattle.rule.specs.Codes.{by_code}
 use Rattle.rule.specs.Tasks.{setup_of, task_of, laid}
-use Rattle.rule.specs.declared.Coded.{Coded}
-use Rattle.rule.specs.declared.Coded.TheVariants.{By, Unknown}
 use Rattle.rule.specs.declared.Solver.{Solver}
 use Rattle.rule.specs.declared.Task.{Task}
-use Rattle.reader.specs.declared.inner.header.Head.{Head}
-use Rattle.reader.specs.declared.inner.header.Head.TheVariants.{Good, Wrong}
 
 -- the header's digits, and its frame: these and a newline
 abbrev pub header_digits : ℕ
@@ -27,10 +23,10 @@ unfoldable pub header : List ℕ → Layout → Solver → Task
 header s layout solver = laid layout (task_of solver (number_at s 2 4) (number_at s 6 2) (setup_of (float s 12) (float s 28) (number_at s 8 4)))
 
 -- a code that stands for no solver and layout is malformed
-abbrev pub head_by : List ℕ → Coded → Head
-head_by s (By layout solver) = Good (header s layout solver)
-head_by s Unknown = Wrong
+abbrev pub head_by : List ℕ → Option (Layout × Solver) → Option Task
+head_by s (Some (layout, solver)) = Some (header s layout solver)
+head_by s None = None
 
 -- solver (2), by its code
-unfoldable pub head_of : List ℕ → Head
-head_of s = cond (header_formed s) (head_by s (by_code (number_at s 0 2))) Wrong
+unfoldable pub head_of : List ℕ → Option Task
+head_of s = cond (header_formed s) (head_by s (by_code (number_at s 0 2))) None

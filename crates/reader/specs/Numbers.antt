@@ -4,6 +4,7 @@ use Rattle.places.specs.declared.Layout.{Layout}
 use Rattle.places.specs.declared.Layout.TheVariants.{ByRows, ByColumns}
 use Rattle.hexdigits.specs.Hex.{float}
 use Rattle.reader.specs.Frames.{frame_at, Formed}
+use Rattle.reader.specs.declared.inner.frames.Frames.{Frames}
 
 -- by rows a frame a row; by columns a single frame with all targets, then one a column
 abbrev pub frame_count : Layout → ℕ → ℕ → ℕ
@@ -30,8 +31,7 @@ feature s ByRows rows cols r j = frame_number s (frame_digits ByRows rows cols) 
 feature s ByColumns rows cols r j = frame_number s (frame_digits ByColumns rows cols) (1 + j) r
 
 -- a part of well formed frames: so many from the first on, and of each so many numbers from a place on
-pub record PartOf (s : List ℕ) (width first frames place each : ℕ) : Type 0 where
-  pub count : ℕ
-  pub formed : Formed s count width
-  pub there : first + frames ≤ count
-  pub wide : 16 * (place + each) ≤ width
+pub record PartOf (s : List ℕ) (whole : Frames) (first frames place each : ℕ) : Type 0 where
+  pub formed : Formed s whole.count whole.width
+  pub there : first + frames ≤ whole.count
+  pub wide : 16 * (place + each) ≤ whole.width

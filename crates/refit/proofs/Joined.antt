@@ -4,6 +4,7 @@ use mathlib.Core.List.{List, ◌++◌}
 use Prim.Native.Nat.{ℕ, ◌+◌, ◌-◌, ◌≤◌}
 use native.Mathlib.Nat.{sub-zero}
 use native.Mathlib.Omega.{arith}
+use lib.Count.{ones}
 use lib.ListN.{length, take, drop, length-append, length-take, length-drop}
 use lib.Seq.{take_at, drop_at}
 use lib.Ieee.{Float}
@@ -15,9 +16,7 @@ use Rattle.least.specs.Least.{least}
 use Rattle.rule.specs.Fits.{padded, by_least, problem, problem_of, matrix_of, solves}
 use Rattle.rule.specs.declared.Task.{Task}
 use Rattle.rule.specs.declared.Solver.TheVariants.{Qr}
-use Rattle.places.specs.Stored.{stored}
 use Rattle.augment.specs.Ridged.{qr_matrix}
-use Rattle.refit.specs.Parts.{Counted}
 use Rattle.refit.proofs.Large.{cells, both}
 
 -- a slice with a written into its head, and b behind that
@@ -32,15 +31,15 @@ pub length_head : (n : ℕ) (l : List Float) → n ≤ length l → length (take
 length_head n l h = rw sub-zero (simp length-take (omega arith))
 
 -- a is made as QR's matrix at the head of a slice of just this room, b as its right-hand side behind it
-module _ {task : Task} {theta target : List Float} {w k : ℕ} (s : Counted task theta target w k) (ws : List Float) (l : length ws ≡ both task k)
-    {a : List Float} (is-a : a ≡ qr_matrix task.rows task.cols w task.setup.lambda (stored task.layout task.rows task.cols theta)) where
+module _ (task : Task) (theta target : List Float) (w k : ℕ) (rows : length target ≡ task.rows) (count : k ≡ ones w) (ws : List Float) (l : length ws ≡ both task k)
+    {a : List Float} (is-a : a ≡ qr_matrix task.rows task.cols w task.setup.lambda (matrix_of task theta)) where
   length_a : length a ≡ cells task k
-  length_a = rw (s.count, is-a) (length_table _ _ _)
+  length_a = rw (count, is-a) (length_table _ _ _)
 
   pub room_behind : length (part (cells task k) (both task k) (head_in task k a ws)) ≡ length target + k
   room_behind =
       let e = length_with 0 (cells task k) a ws (omega arith) (omega arith) (length_a ∙ sym (sub-zero _)) in
-      simp (length-take, length-drop) (omega (arith, s.sized.target_long))
+      simp (length-take, length-drop) (omega (arith, rows))
 
   module _ {b : List Float} (is_b : b ≡ tab (length target + k) (padded (length target) (at target))) where
     joined : both_in task k a b ws ≡ a ++ b
@@ -48,7 +47,7 @@ module _ {task : Task} {theta target : List Float} {w k : ℕ} (s : Counted task
 
     pub length_both : length (both_in task k a b ws) ≡ both task k
     length_both =
-        let e : length b ≡ task.rows + k = ap length is_b ∙ length_tab _ _ ∙ rw s.sized.target_long in
+        let e : length b ≡ task.rows + k = ap length is_b ∙ length_tab _ _ ∙ rw rows in
         ap length joined ∙ length-append a b ∙ (let z : length a + length b ≡ both task k = omega (arith, length_a) in z)
 
     -- the solve of what stands there is by least squares
@@ -60,7 +59,7 @@ module _ {task : Task} {theta target : List Float} {w k : ℕ} (s : Counted task
         (ap₂ (λ (x y : List Float). least (task.rows + k) k x y)
         (ap (take (cells task k)) joined ∙ take_at a b _ length_a ∙ is-a)
         (ap (drop (cells task k)) joined ∙ drop_at a b _ length_a ∙ is_b)
-        ∙ rw (s.sized.target_long, s.count))
+        ∙ rw (rows, count))
 
 -- x is what a solve left in the head of a workspace: the k values stand in it behind the matrix
 module _ (task : Task) (k : ℕ) (ws x : List Float) (fits : both task k ≤ length ws) (kept : length x ≡ length (take (both task k - 0) ws)) where

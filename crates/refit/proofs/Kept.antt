@@ -12,9 +12,11 @@ use Rattle.sums.specs.Products.{gram, moment}
 use Rattle.sums.specs.Inner.{damps}
 use Rattle.sums.specs.declared.inner.Damping.{Damping}
 use Rattle.sums.specs.Kept.{kept_size, kept_sums}
-use Rattle.rule.specs.Fits.{problem, problem_of, matrix_of}
+use Rattle.rule.specs.Fits.{problem, matrix_of}
+use Rattle.rule.specs.Givens.{problem_given}
 use Rattle.rule.specs.Kept.{from_kept, from_head, kept_solves}
 use Rattle.rule.specs.declared.Task.{Task}
+use Rattle.rule.specs.declared.given.Given.{Given}
 use Rattle.rule.specs.declared.Solver.TheVariants.{Qr}
 use Rattle.refit.specs.Parts.{Kept}
 use Rattle.refit.proofs.Methods.{FromSums}
@@ -34,21 +36,24 @@ module _ (n e : ℕ) (ws : List Float) (in_it : kept_size n ≤ e) (fits : e ≤
       take-append-le (kept_size n) x (drop (e - 0) ws) room ∙ same ∙ lent
 
 -- what the first pass left is kept
-module _ (task : Task) (theta target : List Float) where
+module _ (g : Given) where
+  abbrev task : Task
+  task = g.task
+
   pub kept_now : (sums rest : List Float) → length sums ≡ kept_size task.cols
-      → sums ≡ kept_sums task.cols (gram (matrix_of task theta) task.rows) (moment (matrix_of task theta) (at target) task.rows) → Kept task theta target (sums ++ rest)
+      → sums ≡ kept_sums task.cols (gram (matrix_of task g.theta.now) task.rows) (moment (matrix_of task g.theta.now) (at g.target.now) task.rows) → Kept g (sums ++ rest)
   kept_now sums rest long e = record { sums = λ not. take_at sums rest (kept_size task.cols) long ∙ e }
 
-  pub kept_on : (ws ws' : List Float) → take (kept_size task.cols) ws' ≡ take (kept_size task.cols) ws → Kept task theta target ws → Kept task theta target ws'
+  pub kept_on : (ws ws' : List Float) → take (kept_size task.cols) ws' ≡ take (kept_size task.cols) ws → Kept g ws → Kept g ws'
   kept_on ws ws' e k = record { sums = λ not. e ∙ k.sums not }
 
   -- and a solve from it, by a solver that solves so, is that of the support's columns
-  pub kept_is : {d : Damping} → FromSums task.solver task.setup.lambda d → (ws : List Float) (w : ℕ) → Kept task theta target ws → w < 2 ^ task.cols
-      → from_kept (damps d) task.cols ws w ≡ (problem_of task theta target).solve w
+  pub kept_is : {d : Damping} → FromSums task.solver task.setup.lambda d → (ws : List Float) (w : ℕ) → Kept g ws → w < 2 ^ task.cols
+      → from_kept (damps d) task.cols ws w ≡ (problem_given g).solve w
   unfolding problem
   kept_is {d} from ws w k b =
-      rw (from.solve (at target) task.rows) (kept_solves (damps d) task.cols (matrix_of task theta) (at target) task.rows ws w b (k.sums from.not_qr))
+      rw (from.solve (at g.target.now) task.rows) (kept_solves (damps d) task.cols (matrix_of task g.theta.now) (at g.target.now) task.rows ws w b (k.sums from.not_qr))
 
   -- by least squares nothing is kept
-  pub none_kept : (ws : List Float) → task.solver ≡ Qr → Kept task theta target ws
+  pub none_kept : (ws : List Float) → task.solver ≡ Qr → Kept g ws
   none_kept ws is = record { sums = λ not. absurd (not is) }

@@ -1,16 +1,14 @@
 -- How large the parts of a solve over a support are. Assumes nothing.
 use mathlib.Core.Path.{◌≡◌, ap}
-use mathlib.Core.List.{List}
 use Prim.Native.Nat.{ℕ, ◌+◌, ◌*◌, ◌≤◌}
 use native.Mathlib.Nat.{mul-le-mul}
 use native.Mathlib.Omega.{arith}
 use lib.Count.{ones-le}
-use lib.Ieee.{Float}
-use Rattle.places.specs.Columns.{Within}
 use Rattle.sums.specs.Kept.{kept_size}
 use Rattle.sums.specs.declared.inner.Damping.{Damping}
 use Rattle.rule.specs.Sizes.{fit_need, task_need}
 use Rattle.rule.specs.declared.Task.{Task}
+use Rattle.rule.specs.declared.given.Given.{Given}
 use Rattle.rule.specs.declared.Solver.{Solver}
 use Rattle.rule.specs.declared.Solver.TheVariants.{Qr}
 use Rattle.refit.specs.Parts.{Counted}
@@ -27,7 +25,10 @@ both task k = cells task k + (task.rows + k)
 pub sums_fit : (task : Task) {n : ℕ} {d : Damping} → FromSums task.solver task.setup.lambda d → task_need task ≤ n → kept_size task.cols ≤ n
 sums_fit task from room = omega (arith, from.need task.rows task.cols)
 
-module _ {task : Task} {theta target : List Float} {w k : ℕ} (s : Counted task theta target w k) where
+module _ {g : Given} {w k : ℕ} (s : Counted g w k) where
+  abbrev task : Task
+  task = g.task
+
   pub few : k ≤ task.cols
   few = omega (arith, ones-le task.cols w s.within)
 
@@ -36,10 +37,6 @@ module _ {task : Task} {theta target : List Float} {w k : ℕ} (s : Counted task
 
   pub area : cells task k ≤ 266240
   area = let tall : task.rows + k ≤ 4160 = omega (arith, narrow) in omega (arith, mul-le-mul tall narrow)
-
-  -- what QR's matrix is taken from
-  pub columns_in : Within theta task.rows task.cols w
-  columns_in = record { few_columns = s.sized.limited.few_cols; few_rows = s.sized.limited.few_rows; matrix = s.sized.theta_long; terms = s.within }
 
   -- what a fit's workspace of n numbers has room for
   module _ {n : ℕ} (room : task_need task ≤ n) where

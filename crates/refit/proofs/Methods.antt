@@ -2,7 +2,6 @@
 use mathlib.Core.Path.{◌≡◌, refl}
 use mathlib.Core.Logic.{◌≢◌}
 use Prim.Native.Nat.{ℕ}
-use native.Mathlib.Omega.{arith}
 use lib.Ieee.{Float}
 use Rattle.sums.specs.Inner.{damps}
 use Rattle.sums.specs.declared.inner.Damping.{Damping}
@@ -24,11 +23,11 @@ pub from_sums : (solver : Solver) (lambda : Float) (d : Damping) → method_of s
 unfolding solves fit_need
 from_sums Normal lambda d e =
     let same : Ridge lambda ≡ d = cc in
-    record { solve = λ t rows. rw (← same); need = λ rows cols. refl; not_qr = λ q. let z : ◌≡◌ {A = ℕ} 0 1 = cc in absurd (omega arith) }
-from_sums Qr lambda d e = let z : ◌≡◌ {A = ℕ} 0 1 = cc in absurd (omega arith)
+    record { solve = λ t rows. rw (← same); need = λ rows cols. refl; not_qr = λ q. cc }
+from_sums Qr lambda d e = absurd cc
 from_sums Marquardt lambda d e =
     let same : Proportion lambda ≡ d = cc in
-    record { solve = λ t rows. rw (← same); need = λ rows cols. refl; not_qr = λ q. let z : ◌≡◌ {A = ℕ} 0 1 = cc in absurd (omega arith) }
+    record { solve = λ t rows. rw (← same); need = λ rows cols. refl; not_qr = λ q. cc }
 
 -- from the rows: it is least squares
 pub from_rows : (solver : Solver) (lambda : Float) → method_of solver lambda ≡ Rows → solver ≡ Qr

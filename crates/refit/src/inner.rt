@@ -4,8 +4,8 @@ pub mod by_normal;
 pub mod method;
 
 ghost use Rattle.std.specs.Prelude.{◌≡◌, ◌^◌, ◌≤◌, ◌<◌, length};
-ghost use Rattle.rule.specs.Fits.{problem_of};
-ghost use Rattle.rule.specs.Sizes.{Sized, Ready, task_need};
+ghost use Rattle.rule.specs.Givens.{problem_given};
+ghost use Rattle.rule.specs.Sizes.{Lent, task_need};
 ghost use Rattle.refit.specs.Parts.{Counted, Kept, OverSupport, gave};
 
 use crate::inner::by_least::solve_qr;
@@ -14,76 +14,50 @@ use crate::inner::method::{Method, method_of};
 use coeffs::inner::scatter;
 use keep::inner::keep_sums;
 use refusal::Solved;
-use rule::Task;
+use rule::Given;
 use support::{Col, Support, Term};
 
 // What a fit keeps of the rows for its solves: by the normal equations the sums of all columns, by least squares nothing.
-pub fn keep(task: Task, theta: &[f64], target: &[f64], ws: &mut [f64])
-    requires { Sized task theta.now target.now × (task_need task ≤ length ws.old) }
-    ensures { Kept task theta.now target.now ws.new }
+pub fn keep(given: Given, ws: &mut [f64])
+    requires { task_need given.task ≤ length ws.old }
+    ensures { Kept given.entry ws.new }
 {
-    let solver = task.solver;
-    let setup = task.setup;
-    match method_of(solver, setup.lambda) {
-        Method::Sums(_) => {
-            let layout = task.layout;
-            let n_cols = task.cols;
-            let h = n_cols * n_cols + n_cols;
-            keep_sums(layout, theta, target, task.rows, n_cols, &mut ws[0..h]);
-        }
-        Method::Rows => {}
+    if let Method::Sums(_) = method_of(given.task.solver, given.task.setup.lambda) {
+        let n_cols = given.task.cols;
+        let h = n_cols * n_cols + n_cols;
+        keep_sums(given.theta(), given.target, &mut ws[0..h]);
     }
 }
 
 // The values of the support's columns by reduced place, in b.
-fn solve_columns(
-    task: Task,
-    theta: &[f64],
-    target: &[f64],
-    support: Support,
-    b: &mut [f64],
-    ws: &mut [f64],
-) -> Solved
-    requires { Counted task theta.now target.now support.0 (length b.old) × (task_need task ≤ length ws.old) × Kept task theta.now target.now ws.old }
-    ensures { (gave result b.new ≡ (problem_of task theta.now target.now).solve support.0)
-        × Kept task theta.now target.now ws.new }
+fn solve_columns(given: Given, support: Support, b: &mut [f64], ws: &mut [f64]) -> Solved
+    requires { Counted given support.0 (length b.old) × (task_need given.task ≤ length ws.old) × Kept given ws.old }
+    ensures { (gave result b.new ≡ (problem_given given.entry).solve support.0)
+        × Kept given.entry ws.new }
 {
-    let solver = task.solver;
-    let setup = task.setup;
-    match method_of(solver, setup.lambda) {
-        Method::Sums(damping) => solve_normal(task, damping, support, b, ws),
-        Method::Rows => solve_qr(task, theta, target, support, b, ws),
+    match method_of(given.task.solver, given.task.setup.lambda) {
+        Method::Sums(damping) => solve_normal(given.task.cols, damping, support, b, ws),
+        Method::Rows => solve_qr(given, support, b, ws),
     }
 }
 
-// What a solve over a support came to: its values at their terms, or the term of theta at which it refused.
-#[derive(Clone, Copy)]
-pub enum Spread {
-    Done,
-    Refused(Term),
-}
-
-// The solve over a support's columns, its values put at their terms.
+// The solve over a support's columns, its values put at their terms; or the term of theta at which it refused.
 pub fn solve_terms(
-    task: Task,
-    theta: &[f64],
-    target: &[f64],
+    given: Given,
     support: Support,
     coeffs: &mut [f64],
     ws: &mut [f64],
-) -> Spread
-    requires { Ready task theta.now target.now coeffs.old ws.old × (support.0 < 2 ^ task.cols) × Kept task theta.now target.now ws.old }
-    ensures { OverSupport task theta.now target.now support.0 result coeffs.new × Kept task theta.now target.now ws.new }
+) -> Result<(), Term>
+    requires { Lent given.task coeffs.old ws.old × (support.0 < 2 ^ given.task.cols) × Kept given ws.old }
+    ensures { OverSupport given.entry support.0 result coeffs.new
+        × Kept given.entry ws.new }
 {
     let n_active = support.count();
-    match solve_columns(task, theta, target, support, &mut coeffs[0..n_active], ws) {
-        Solved::Done => {
+    match solve_columns(given, support, &mut coeffs[0..n_active], ws) {
+        Ok(()) => {
             scatter(coeffs, support);
-            Spread::Done
+            Ok(())
         }
-        Solved::Refused(col) => {
-            let term = support.term_at(Col(col));
-            Spread::Refused(term)
-        }
+        Err(col) => Err(support.term_at(Col(col))),
     }
 }

@@ -1,12 +1,10 @@
-// The refusals of document 01, and the answers that are made of them.
+// The refusals of document 01, and the results that carry them.
 #![tactic(auto)]
-
-pub mod inner;
 
 ghost use Rattle.std.specs.Prelude.{◌≡◌};
 ghost use Rattle.refusal.specs.Answers.{answer_column, answer_number, column_of, number};
 
-#[derive(Clone, Copy)]
+#[derive(Clone, Copy, Debug, PartialEq, Eq)]
 pub enum Refusal {
     ManyColumns,
     ManyRows,
@@ -25,25 +23,10 @@ pub enum Refusal {
 }
 
 // What a public call answers that gives no value of its own.
-#[derive(Clone, Copy)]
-pub enum Answer {
-    Done,
-    Refused(Refusal),
-}
+pub type Answer = Result<(), Refusal>;
 
-// What a solver answers inside: done, or the column at which it refused.
-#[derive(Clone, Copy)]
-pub enum Solved {
-    Done,
-    Refused(usize),
-}
-
-// A column of a matrix, or none.
-#[derive(Clone, Copy)]
-pub enum Column {
-    None,
-    At(usize),
-}
+// What a solver answers inside: done, or the column of its matrix at which it refused.
+pub type Solved = Result<(), usize>;
 
 // The number of a refusal in document 01.
 pub fn number(w: Refusal) -> u64
@@ -67,42 +50,28 @@ pub fn number(w: Refusal) -> u64
 }
 
 // The column that a refusal carries: 8 and 9 do.
-pub fn column_of(w: Refusal) -> Column
+pub fn column_of(w: Refusal) -> Option<usize>
     ensures { result ≡ column_of w }
 {
     match w {
-        Refusal::ManyColumns => Column::None,
-        Refusal::ManyRows => Column::None,
-        Refusal::ManyRounds => Column::None,
-        Refusal::MatrixLength => Column::None,
-        Refusal::TargetLength => Column::None,
-        Refusal::OutputLength => Column::None,
-        Refusal::WorkspaceShort => Column::None,
-        Refusal::NotSpd(c) => Column::At(c),
-        Refusal::SmallPivot(c) => Column::At(c),
-        Refusal::FewRows => Column::None,
-        Refusal::Malformed => Column::None,
-        Refusal::LowThreshold => Column::None,
-        Refusal::NoSuchTerm => Column::None,
+        Refusal::NotSpd(c) | Refusal::SmallPivot(c) => Some(c),
+        _ => None,
     }
 }
 
-// An answer by number: 0 for done, else the refusal's.
-pub fn answer_number(a: Answer) -> u64
+// An answer by number, whatever value it gives: 0 where nothing is refused, else the refusal's.
+pub fn answer_number<T: Copy>(a: Result<T, Refusal>) -> u64
     ensures { result ≡ answer_number a }
 {
     match a {
-        Answer::Done => 0,
-        Answer::Refused(w) => number(w),
+        Ok(_) => 0,
+        Err(w) => number(w),
     }
 }
 
 // The column at which an answer says that a solver refused.
-pub fn answer_column(a: Answer) -> Column
+pub fn answer_column(a: Answer) -> Option<usize>
     ensures { result ≡ answer_column a }
 {
-    match a {
-        Answer::Done => Column::None,
-        Answer::Refused(w) => column_of(w),
-    }
+    a.err().and_then(column_of)
 }

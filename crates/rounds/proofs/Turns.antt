@@ -10,9 +10,10 @@ use Rattle.support.specs.declared.Support.{Support}
 use Rattle.support.specs.declared.Term.{Term}
 use Rattle.rule.specs.declared.Stop.{Stop}
 use Rattle.rule.specs.declared.Stop.TheVariants as S
-use Rattle.rule.specs.declared.Drop.{Drop}
-use Rattle.rule.specs.Rule.{Problem, going, done, latest, support, round, rounds, reported, last_look, finish, fit, coeffs_of}
+use Rattle.std.specs.Prelude.{Option}
+use Rattle.rule.specs.declared.Look.{Look}
 use Rattle.rule.specs.Dropped.{drops, or_else, dropped}
+use Rattle.rule.specs.Rule.{Problem, going, done, latest, support, round, rounds, reported, last_look, finish, fit, coeffs_of}
 use Rattle.rule.proofs.Dropped.{dropped_stays}
 use Rattle.rule.proofs.Stable.{stays}
 use Rattle.rounds.specs.declared.inner.Turn.{Turn}
@@ -22,7 +23,7 @@ use Rattle.rounds.specs.Ran.{CameTo}
 use Rattle.rounds.specs.Ended.{came_to}
 
 -- after r rounds, each of which refitted, the rule goes on with these coefficients and this last support, and so far the term j was dropped there
-pub record Going (P : Problem) (r j : ℕ) (drop : Drop) (cs : List Float) (last : ℕ) : Type 0 where
+pub record Going (P : Problem) (r j : ℕ) (drop : Option Look) (cs : List Float) (last : ℕ) : Type 0 where
   pub past : List ℕ
   pub state : rounds P r ≡ going cs past
   pub last_is : last ≡ latest past
@@ -31,7 +32,7 @@ pub record Going (P : Problem) (r j : ℕ) (drop : Drop) (cs : List Float) (last
 
 module _ (P : Problem) (j : ℕ) where
   -- rounds used up: the last look's stop
-  pub used_up : {r last m : ℕ} {d : Drop} {cs : List Float} → Going P r j d cs last → r ≤ m → m ≤ r → CameTo P m j (last_look m last (support P cs)) m d cs
+  pub used_up : {r last m : ℕ} {d : Option Look} {cs : List Float} → Going P r j d cs last → r ≤ m → m ≤ r → CameTo P m j (last_look m last (support P cs)) m d cs
   unfolding fit finish
   used_up {r = r} {last = last} {d = d} {cs = cs} g h i =
       let seen : last_look (length g.past) (latest g.past) (support P cs) ≡ last_look r last (support P cs) = rw (g.last_is, g.count_is) refl in
@@ -45,7 +46,7 @@ module _ (P : Problem) (j : ℕ) where
       })
 
   -- one round more, which looked at the term
-  module _ {r last : ℕ} {d d' : Drop} {cs : List Float} (g : Going P r j d cs last) (look : d' ≡ or_else d (drops P j (going cs g.past))) where
+  module _ {r last : ℕ} {d d' : Option Look} {cs : List Float} (g : Going P r j d cs last) (look : d' ≡ or_else d (drops P j (going cs g.past))) where
     seen_next : d' ≡ dropped P j (suc r)
     unfolding dropped
     seen_next = look ∙ rw (g.drop_is, g.state) refl

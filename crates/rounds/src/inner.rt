@@ -1,23 +1,24 @@
 // The rounds of a fit: one loop for every solver.
-ghost use Rattle.std.specs.Prelude.{◌≡◌, cond, [], suc, ◌≤◌, length};
+ghost use Rattle.std.specs.Prelude.{◌≡◌, cond, [], suc, ◌≤◌, length, None, Some};
 ghost use Rattle.steps.specs.Num.{at};
 ghost use Rattle.support.specs.Word.{has, word};
 ghost use Rattle.rule.specs.Rule.{going, last_look, start};
-ghost use Rattle.rule.specs.Dropped.{or_else};
-ghost use Rattle.rule.specs.Fits.{keeps, problem_of};
-ghost use Rattle.rule.specs.Sizes.{Ready};
+ghost use Rattle.rule.specs.Dropped.{before, or_else};
+ghost use Rattle.rule.specs.Fits.{keeps};
+ghost use Rattle.rule.specs.Givens.{problem_given};
+ghost use Rattle.rule.specs.Sizes.{Lent};
 ghost use Rattle.refit.specs.Parts.{Kept};
 ghost use Rattle.rounds.specs.Turned.{Turned};
 ghost use Rattle.rounds.specs.Ran.{CameTo};
 
 use coeffs::inner::{coefficient, finds, support_of};
-use refit::inner::{Spread, solve_terms};
-use rule::{Drop, Setup, Stop, Task};
+use refit::inner::solve_terms;
+use rule::{Given, Look, Setup, Stop};
 use slices::inner::clear;
 use support::{Support, Term};
 
 // What a round came to: a refit over this support, or the fit's end, by a refused refit at this term.
-#[derive(Clone, Copy)]
+#[derive(Clone, Copy, Debug, PartialEq, Eq)]
 pub enum Turn {
     Again(Support),
     Empty,
@@ -26,92 +27,82 @@ pub enum Turn {
 }
 
 // How the rounds of a fit ended, and which of their looks dropped the term that was watched.
-#[derive(Clone, Copy)]
+#[derive(Clone, Copy, Debug, PartialEq)]
 pub struct Ran {
     pub stop: Stop,
     pub refits: usize,
-    pub drop: Drop,
+    pub drop: Option<Look>,
 }
 
 // One round after the last refitted support: a look at the coefficients, and a refit unless they end the fit.
-pub fn round(
-    task: Task,
-    theta: &[f64],
-    target: &[f64],
-    last: Support,
-    coeffs: &mut [f64],
-    ws: &mut [f64],
-) -> Turn
-    requires { Ready task theta.now target.now coeffs.old ws.old × Kept task theta.now target.now ws.old }
-    ensures { Turned (problem_of task theta.now target.now) last.0 coeffs.old result coeffs.new
-        × Kept task theta.now target.now ws.new }
+pub fn round(given: Given, last: Support, coeffs: &mut [f64], ws: &mut [f64]) -> Turn
+    requires { Lent given.task coeffs.old ws.old × Kept given ws.old }
+    ensures { Turned (problem_given given.entry) last.0 coeffs.old result coeffs.new
+        × Kept given.entry ws.new }
 {
-    let setup = task.setup;
-    let support = support_of(coeffs, setup);
-    if support.same(Support::empty()) {
-        clear(coeffs, task.cols);
+    let support = support_of(coeffs, given.task.setup);
+    if support == Support::empty() {
+        clear(coeffs, given.task.cols);
         return Turn::Empty;
     }
-    if support.same(last) {
+    if support == last {
         return Turn::Settled;
     }
-    match solve_terms(task, theta, target, support, coeffs, ws) {
-        Spread::Done => Turn::Again(support),
-        Spread::Refused(term) => {
-            clear(coeffs, task.cols);
+    match solve_terms(given, support, coeffs, ws) {
+        Ok(()) => Turn::Again(support),
+        Err(term) => {
+            clear(coeffs, given.task.cols);
             Turn::Refused(term)
         }
     }
 }
 
 // The rounds are used up after this many refits, and one more look found this support.
+#[tactic(auto, unfolding(rule::specs::Rule::last_look))]
 fn last_look(refits: usize, last: Support, support: Support) -> Stop
     ensures { result ≡ last_look refits last.0 support.0 }
 {
-    if refits == 0 {
-        return Stop::OutOfRounds;
-    }
-    if support.same(last) {
+    if refits > 0 && support == last {
         return Stop::Settled;
     }
     Stop::OutOfRounds
 }
 
 // What is known of a term after the look at these coefficients, which follows so many refits: an earlier look may have dropped it.
-fn watched(drop: Drop, refits: usize, term_idx: Term, coeffs: &[f64], setup: Setup) -> Drop
+#[tactic(auto, unfolding(rule::specs::Dropped::or_else))]
+fn watched(
+    drop: Option<Look>,
+    refits: usize,
+    term_idx: Term,
+    coeffs: &[f64],
+    setup: Setup,
+) -> Option<Look>
     requires { refits ≤ 1000 }
     ensures { result ≡ or_else drop (cond (has (word (λ j. keeps setup j (at coeffs.now j)) (length coeffs.now)) term_idx.0)
-        Drop.Never (Drop.Before (suc refits) (at coeffs.now term_idx.0))) }
+        None (Some (before (suc refits) (at coeffs.now term_idx.0)))) }
 {
-    let Drop::Never = drop else {
+    if drop.is_some() || finds(coeffs, term_idx, setup) {
         return drop;
-    };
-    if finds(coeffs, term_idx, setup) {
-        return Drop::Never;
     }
-    Drop::Before(refits + 1, coefficient(coeffs, term_idx))
+    Some(Look {
+        refit: refits + 1,
+        value: coefficient(coeffs, term_idx),
+    })
 }
 
 // The rounds after a first solve that was not refused: each refits but one that ends the fit. When they are used up, the last look tells the stop.
 // Before each round the term that is watched is looked at; that changes nothing.
-pub fn rounds(
-    task: Task,
-    theta: &[f64],
-    target: &[f64],
-    term_idx: Term,
-    coeffs: &mut [f64],
-    ws: &mut [f64],
-) -> Ran
-    requires { Ready task theta.now target.now coeffs.old ws.old × Kept task theta.now target.now ws.old
-        × (start (problem_of task theta.now target.now) ≡ going coeffs.old []) }
-    ensures { CameTo (problem_of task theta.now target.now) task.setup.max_iter term_idx.0 result.stop result.refits result.drop coeffs.new }
+pub fn rounds(given: Given, term_idx: Term, coeffs: &mut [f64], ws: &mut [f64]) -> Ran
+    requires { Lent given.task coeffs.old ws.old × Kept given ws.old
+        × (start (problem_given given) ≡ going coeffs.old []) }
+    ensures { CameTo (problem_given given.entry) given.entry.task.setup.max_iter term_idx.0
+        result.stop result.refits result.drop coeffs.new }
 {
-    let setup = task.setup;
     let mut last = Support::empty();
-    let mut drop = Drop::Never;
-    for refits in 0..setup.max_iter {
-        drop = watched(drop, refits, term_idx, coeffs, setup);
-        match round(task, theta, target, last, coeffs, ws) {
+    let mut drop = None;
+    for refits in 0..given.task.setup.max_iter {
+        drop = watched(drop, refits, term_idx, coeffs, given.task.setup);
+        match round(given, last, coeffs, ws) {
             Turn::Again(support) => {
                 last = support;
             }
@@ -130,19 +121,22 @@ pub fn rounds(
                 };
             }
             Turn::Refused(term) => {
-                let counted = refits + 1;
                 return Ran {
                     stop: Stop::RefitRefused(term),
-                    refits: counted,
+                    refits: refits + 1,
                     drop,
                 };
             }
         }
     }
-    let stop = last_look(setup.max_iter, last, support_of(coeffs, setup));
+    let stop = last_look(
+        given.task.setup.max_iter,
+        last,
+        support_of(coeffs, given.task.setup),
+    );
     Ran {
         stop,
-        refits: setup.max_iter,
+        refits: given.task.setup.max_iter,
         drop,
     }
 }

@@ -1,5 +1,5 @@
 -- What holds at the start of a fit and is kept by each thing that can happen to it holds after every round, and so of the fit.
-use Rattle.std.specs.Prelude.{◌≡◌, refl, ◌≢◌, Bool, true, ◌||◌, List, [], eqb, Float}
+use Rattle.std.specs.Prelude.{◌≡◌, refl, ◌≢◌, List, [], eqb, Float}
 use Rattle.std.proofs.Math.Bool.{false}
 use Prim.Native.Nat.{ℕ, zero, suc}
 use Rattle.std.proofs.Common.{eqb-true}
@@ -7,8 +7,7 @@ use Rattle.std.proofs.lemmas.Bool.{eqb-false}
 use Rattle.steps.specs.Cond.{either}
 use Rattle.refusal.specs.Answers.{Solution, solved, refused}
 use Rattle.rule.specs.declared.Stop.{Stop}
-use Rattle.rule.specs.declared.Stop.TheVariants.{NoData, Empty, Settled}
-use Rattle.rule.specs.Rule.{Problem, State, going, done, latest, zeros, support, refit, look, round, first, start, rounds, reported, last_stop, finish, Fit, fit}
+use Rattle.rule.specs.Rule.{Problem, State, going, done, latest, support, refit, look, round, first, start, rounds, reported, last_stop, finish, Fit, fit}
 use Rattle.rule.specs.Course.{lacking, Course}
 
 module _ (P : Problem) where

@@ -13,7 +13,6 @@ use Rattle.steps.specs.Cond.{either, lt_or_ge}
 use Rattle.steps.specs.Table.{get_or_tab, tab_cong, tab_replicate}
 use Rattle.support.specs.Word.{has, place}
 use Rattle.support.specs.WordLaws.{word_lt, has_word, has_beyond}
-use Rattle.refusal.specs.Answers.{solved}
 use Rattle.rule.specs.declared.Stop.{Stop}
 use Rattle.rule.specs.declared.Stop.TheVariants.{NoData, FirstRefused, Empty, RefitRefused, Settled, OutOfRounds}
 use Rattle.rule.specs.Rule.{Problem, State, going, done, latest, zeros, support, scatter, refit, first, pruned, reported, last_look, last_stop, fit}

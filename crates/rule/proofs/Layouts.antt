@@ -1,11 +1,12 @@
 -- Theta by rows and by columns give the same fit: one law over the way in which an entry is found.
-use Rattle.std.specs.Prelude.{◌≡◌, List, ℕ, length, Float}
+use Rattle.std.specs.Prelude.{◌≡◌, List, ℕ, length, Float, Result}
 use Rattle.std.proofs.Common.{sym, ap, ◌∙◌}
 use Rattle.steps.specs.Num.{at, Entry}
 use Rattle.places.specs.declared.Layout.{Layout}
-use Rattle.places.specs.Stored.{laid_out, stored_found, length_laid_out}
+use Rattle.places.specs.Stored.{stored_found, length_laid_out}
 use Rattle.rule.specs.declared.Task.{Task}
-use Rattle.rule.specs.declared.Fitted.{Fitted}
+use Rattle.rule.specs.declared.Report.{Report}
+use Rattle.refusal.specs.declared.Refusal.{Refusal}
 use Rattle.rule.specs.Tasks.{laid}
 use Rattle.rule.specs.Fits.{problem, fit_by, matrix_of, fit_of}
 use Rattle.rule.specs.Sizes.{limits, lengths, fit_sizes}
@@ -32,7 +33,7 @@ sizes_alike task l m e target coeffs space =
     ap (λ (long : ℕ). fit_sizes (laid l task) long target coeffs space) (length_laid_out l task.rows task.cols e ∙ sym (length_laid_out m task.rows task.cols e))
 
 -- two calls for one matrix that differ in the layout alone answer alike, report or refusal, and leave the same coefficients and the same workspace
-pub calls_alike : (task : Task) (l m : Layout) (e : Entry) (target cs w cs' w' cs'' w'' : List Float) (r s : Fitted)
+pub calls_alike : (task : Task) (l m : Layout) (e : Entry) (target cs w cs' w' cs'' w'' : List Float) (r s : Result Report Refusal)
     → FitCall (laid l task) (theta_of (laid l task) e) target cs cs' w w' r → FitCall (laid m task) (theta_of (laid m task) e) target cs cs'' w w'' s
     → (r ≡ s) × (cs' ≡ cs'') × (w' ≡ w'')
 calls_alike task l m e target cs w cs' w' cs'' w'' r s p q =

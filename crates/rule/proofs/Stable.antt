@@ -1,14 +1,12 @@
 -- What of demand 3 holds at any threshold; `Shrinking` has what rests on one above zero.
-use Rattle.std.specs.Prelude.{◌≡◌, ◌≢◌, List, [], ◌∷◌, T, Float}
+use Rattle.std.specs.Prelude.{◌≡◌, ◌≢◌, List, [], Float}
 use Rattle.std.proofs.Math.Path.{refl, ap, subst}
 use Rattle.std.proofs.Common.{sym, ◌∙◌, eq-or-lt_of_le}
 use Rattle.std.proofs.Math.Logic.{⊎_elim}
-use Prim.Native.Nat.{ℕ, suc, ◌+◌, ◌≤◌, ◌<◌}
+use Prim.Native.Nat.{ℕ, suc, ◌≤◌, ◌<◌}
 use Rattle.std.proofs.Math.Decide.{le_ind}
 use native.Mathlib.Omega.{arith}
 use Rattle.std.proofs.Math.ListN.{length}
-use Rattle.steps.specs.Num.{+zero}
-use Rattle.support.specs.Word.{Strict}
 use Rattle.rule.specs.declared.Stop.{Stop}
 use Rattle.rule.specs.declared.Stop.TheVariants.{NoData, FirstRefused, Empty, RefitRefused, Settled, OutOfRounds}
 use Rattle.rule.specs.Rule.{Problem, State, going, done, refit, round, first, rounds, reported, last_stop, finish, fit, past, refitted}

@@ -1,28 +1,25 @@
 -- What the fits answer and leave. Assumes nothing.
-use Rattle.std.specs.Prelude.{◌≡◌, List, length, Float}
+use Rattle.std.specs.Prelude.{◌≡◌, List, length, Float, Result, Ok, Err}
 use Rattle.steps.specs.Space.{cleared}
-use Rattle.refusal.specs.Answers.{if_done}
-use Rattle.refusal.specs.declared.Answer.{Answer}
-use Rattle.refusal.specs.declared.Answer.TheVariants.{Done, Refused}
+use Rattle.refusal.specs.Answers.{Answer, if_done}
+use Rattle.refusal.specs.declared.Refusal.{Refusal}
 use Rattle.rule.specs.Rule.{Fit}
 use Rattle.rule.specs.Fits.{fit_of}
 use Rattle.rule.specs.Sizes.{task_need, fit_sizes}
 use Rattle.rule.specs.declared.Task.{Task}
 use Rattle.rule.specs.declared.Report.{Report}
-use Rattle.rule.specs.declared.Fitted.{Fitted}
-use Rattle.rule.specs.declared.Fitted.TheVariants as F
 
 -- the report of a fit
 abbrev pub report_of : Fit → Report
 report_of f = record { stop = f.stop; refits = f.refits; kept = record { 0 = f.kept }; error = f.error }
 
 -- a refusal, or the report
-abbrev pub fitted : Answer → Fit → Fitted
-fitted Done f = F.Fit (report_of f)
-fitted (Refused w) f = F.Refused w
+abbrev pub fitted : Answer → Fit → Result Report Refusal
+fitted (Ok done) f = Ok (report_of f)
+fitted (Err w) f = Err w
 
 -- a fit: its answer, the coefficients, and the workspace cleared over the needed length; a refusal leaves all unchanged
-pub record FitCall (task : Task) (theta target cs cs' w w' : List Float) (r : Fitted) : Type 0 where
+pub record FitCall (task : Task) (theta target cs cs' w w' : List Float) (r : Result Report Refusal) : Type 0 where
   -- what the sizes and the lengths come to
   pub sizes : Answer
   pub judged : sizes ≡ fit_sizes task (length theta) (length target) (length cs) (length w)

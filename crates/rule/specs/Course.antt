@@ -1,14 +1,11 @@
 -- What can happen to a fit, each a case of `Course`: what holds at its start and is kept by each holds after every round. The laws are those of proofs/Course. Assumes nothing.
-use Rattle.std.specs.Prelude.{◌≡◌, refl, ◌≢◌, Bool, true, ◌||◌, List, [], eqb, Float}
+use Rattle.std.specs.Prelude.{◌≡◌, ◌≢◌, Bool, true, ◌||◌, List, [], eqb, Float}
 use Rattle.std.proofs.Math.Bool.{false}
-use Prim.Native.Nat.{ℕ, zero, suc}
-use Rattle.std.proofs.Common.{eqb-true}
-use Rattle.std.proofs.lemmas.Bool.{eqb-false}
-use Rattle.steps.specs.Cond.{either}
-use Rattle.refusal.specs.Answers.{Solution, solved, refused}
+use Prim.Native.Nat.{ℕ, suc}
+use Rattle.refusal.specs.Answers.{solved, refused}
 use Rattle.rule.specs.declared.Stop.{Stop}
 use Rattle.rule.specs.declared.Stop.TheVariants.{NoData, Empty, Settled}
-use Rattle.rule.specs.Rule.{Problem, State, going, done, latest, zeros, support, refit, look, round, first, start, rounds, reported, last_stop, finish, Fit, fit}
+use Rattle.rule.specs.Rule.{Problem, State, going, done, latest, zeros, support, refit, first}
 
 module _ (P : Problem) where
   -- no rows or no columns

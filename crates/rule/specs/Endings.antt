@@ -1,22 +1,11 @@
 -- How a fit ends: with zeros, or with settled coefficients. The laws are those of proofs/Endings. Assumes nothing.
-use Rattle.std.specs.Prelude.{◌≡◌, ◌≢◌, ◌⊎◌, Bool, false, cond, ◌&&◌, eqb, ltb, length, Float}
-use Rattle.std.proofs.Math.Path.{refl, sym, ap}
-use Rattle.std.proofs.Common.{◌∙◌, subst, lt-ltb, le-ltb}
-use Rattle.std.proofs.Math.Logic.{⊎_elim}
-use mathlib.Core.List.{List, [], ◌∷◌}
-use Prim.Native.Nat.{ℕ, ◌^◌, ◌<◌}
-use Rattle.std.proofs.Math.ListN.{get_or-replicate}
-use Rattle.std.specs.Float.Ieee.{nan, of_bits}
-use Rattle.std.specs.Float.{inf, fin}
-use Rattle.steps.specs.Num.{+zero, at}
-use Rattle.steps.specs.Cond.{either, lt_or_ge}
-use Rattle.steps.specs.Table.{get_or_tab, tab_cong, tab_replicate}
-use Rattle.support.specs.Word.{has, place}
-use Rattle.support.specs.WordLaws.{word_lt, has_word, has_beyond}
+use Rattle.std.specs.Prelude.{◌≡◌, Float}
+use mathlib.Core.List.{List, []}
+use Prim.Native.Nat.{ℕ}
 use Rattle.refusal.specs.Answers.{solved}
 use Rattle.rule.specs.declared.Stop.{Stop}
 use Rattle.rule.specs.declared.Stop.TheVariants.{NoData, FirstRefused, Empty, RefitRefused, Settled, OutOfRounds}
-use Rattle.rule.specs.Rule.{Problem, State, going, done, latest, zeros, support, scatter, refit, first, pruned, reported, last_look, last_stop, fit}
+use Rattle.rule.specs.Rule.{Problem, latest, support, scatter}
 
 -- the stops that leave only zeros: no data, a refused solve, an empty support
 abbrev pub Zeroed : Stop → Type 0

@@ -6,6 +6,7 @@ pub mod Dropped
 pub mod Fits
 pub mod Kept
 pub mod Sizes
+pub mod Givens
 pub mod Calls
 pub mod Accepted
 pub mod Unique

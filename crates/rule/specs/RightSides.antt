@@ -82,12 +82,12 @@ module _ {Q : Float → Type 0} (made : Rounded Q) where
 
   normal_values : (n : ℕ) (w : Way (List Float)) (vs : List Float) → Column Q n (final w) → solution w ≡ solved vs → Column Q n vs
   normal_values n (going x) vs c q = let z : x ≡ vs = cc in rw (← z) c
-  normal_values n (stopped k x) vs c q = let z : ◌≡◌ {A = ℕ} 0 1 = cc in absurd (omega arith)
+  normal_values n (stopped k x) vs c q = absurd cc
 
   least_values : (m n : ℕ) (w : Way (List Float)) (vs : List Float) → n ≤ m → Column Q m (final w) → values n w ≡ solved vs → Column Q n vs
   unfolding values
   least_values m n (going x) vs h c q = let z : take n x ≡ vs = cc in rw (← z) (take_column made n x (omega (arith, c.long)) c)
-  least_values m n (stopped k x) vs h c q = let z : ◌≡◌ {A = ℕ} 0 1 = cc in absurd (omega arith)
+  least_values m n (stopped k x) vs h c q = absurd cc
 
   -- of the normal equations
   pub normal_column : (n : ℕ) (a b vs : List Float) → Column Q n b → solution (normal n a b) ≡ solved vs → Column Q n vs

@@ -1,11 +1,9 @@
 -- The first refusal that applies to a fit, and what holds exactly where none does. Assumes nothing.
-use Rattle.std.specs.Prelude.{◌≡◌, not, List, ℕ, ◌+◌, ◌*◌, ◌≤◌, ltb, eqb, length, Float}
+use Rattle.std.specs.Prelude.{◌≡◌, not, List, ℕ, ◌+◌, ◌*◌, ◌≤◌, ltb, eqb, length, Float, Ok}
 use Rattle.std.proofs.Common.{◌∙◌}
 use borrow.Author.Tests.{ltb-false, eqb-true, not-false, le-ltb, eq-eqb}
-use Rattle.refusal.specs.Answers.{refuse_if, and_then}
+use Rattle.refusal.specs.Answers.{Answer, refuse_if, and_then}
 use Rattle.refusal.specs.Ladder.{not_refused, both_done}
-use Rattle.refusal.specs.declared.Answer.{Answer}
-use Rattle.refusal.specs.declared.Answer.TheVariants.{Done}
 use Rattle.refusal.specs.declared.Refusal.TheVariants.{ManyColumns, ManyRows, ManyRounds, MatrixLength, TargetLength, OutputLength, WorkspaceShort}
 use Rattle.rule.specs.declared.Solver.{Solver}
 use Rattle.rule.specs.declared.Solver.TheVariants.{Normal, Qr, Marquardt}
@@ -29,7 +27,7 @@ unfoldable pub limits : ℕ → ℕ → Task → Answer
 limits cols rows task =
     refuse_if (ltb cols task.cols) ManyColumns (refuse_if (ltb rows task.rows) ManyRows
     (refuse_if (ltb 1000 task.setup.max_iter) ManyRounds
-    Done))
+    (Ok tt)))
 
 -- 4, 5, 6, 7: theta, target or coefficients of another length than the task's sizes say, or a workspace too short
 unfoldable pub lengths : Task → ℕ → ℕ → ℕ → ℕ → Answer
@@ -38,7 +36,7 @@ lengths task theta target coeffs space =
     (refuse_if (not (eqb target task.rows)) TargetLength
     (refuse_if (not (eqb coeffs task.cols)) OutputLength
     (refuse_if (ltb space (task_need task)) WorkspaceShort
-    Done)))
+    (Ok tt))))
 
 -- the limits, then the lengths: a later order's refusals stand between
 unfoldable pub fit_sizes : Task → ℕ → ℕ → ℕ → ℕ → Answer
@@ -64,12 +62,17 @@ pub record Ready (task : Task) (theta target coeffs space : List Float) : Type 0
   pub coeffs_long : length coeffs ≡ task.cols
   pub space_long : task_need task ≤ length space
 
+-- the rest of it: what is lent to write in, a coefficient a column and a workspace long enough
+pub record Lent (task : Task) (coeffs space : List Float) : Type 0 where
+  pub coeffs_long : length coeffs ≡ task.cols
+  pub space_long : task_need task ≤ length space
+
 module _ {cols rows : ℕ} {task : Task} where
-  pub limits_kept : Limited cols rows task → limits cols rows task ≡ Done
+  pub limits_kept : Limited cols rows task → limits cols rows task ≡ Ok tt
   unfolding limits
   limits_kept l = simp (le-ltb cols task.cols l.few_cols, le-ltb rows task.rows l.few_rows, le-ltb 1000 task.setup.max_iter l.few_rounds)
 
-  pub limits_hold : limits cols rows task ≡ Done → Limited cols rows task
+  pub limits_hold : limits cols rows task ≡ Ok tt → Limited cols rows task
   unfolding limits
   limits_hold e =
       let few = not_refused (ltb cols task.cols) ManyColumns _ e in
@@ -79,10 +82,10 @@ module _ {cols rows : ℕ} {task : Task} where
 
 module _ {task : Task} {theta target coeffs space : List Float} where
   -- no refusal applies to what is ready
-  pub accepted : Ready task theta target coeffs space → fit_sizes task (length theta) (length target) (length coeffs) (length space) ≡ Done
+  pub accepted : Ready task theta target coeffs space → fit_sizes task (length theta) (length target) (length coeffs) (length space) ≡ Ok tt
   unfolding fit_sizes lengths
   accepted r =
-      let fine : lengths task (length theta) (length target) (length coeffs) (length space) ≡ Done
+      let fine : lengths task (length theta) (length target) (length coeffs) (length space) ≡ Ok tt
       = simp (
         eq-eqb (length theta) (task.rows * task.cols) r.sized.theta_long,
         eq-eqb (length target) task.rows r.sized.target_long,
@@ -92,7 +95,7 @@ module _ {task : Task} {theta target coeffs space : List Float} where
       rw (limits_kept r.sized.limited) fine
 
   -- and some refusal to all else
-  pub ready : fit_sizes task (length theta) (length target) (length coeffs) (length space) ≡ Done → Ready task theta target coeffs space
+  pub ready : fit_sizes task (length theta) (length target) (length coeffs) (length space) ≡ Ok tt → Ready task theta target coeffs space
   unfolding fit_sizes lengths
   ready e =
       let both = both_done (limits 64 4096 task) _ e in
@@ -105,6 +108,13 @@ module _ {task : Task} {theta target coeffs space : List Float} where
         coeffs_long = eqb-true _ _ (not-false _ out.0);
         space_long = ltb-false _ _ room.0;
       }
+
+  -- the two parts of what is ready
+  pub lent_ready : Sized task theta target → Lent task coeffs space → Ready task theta target coeffs space
+  lent_ready s l = record { sized = s; coeffs_long = l.coeffs_long; space_long = l.space_long }
+
+  pub ready_lent : Ready task theta target coeffs space → Lent task coeffs space
+  ready_lent r = record { coeffs_long = r.coeffs_long; space_long = r.space_long }
 
   -- other numbers of the same count are as good
   pub still : {cs ws : List Float} → Ready task theta target coeffs space → length cs ≡ length coeffs → length ws ≡ length space → Ready task theta target cs ws

@@ -1,17 +1,11 @@
 -- Demand 3 over the problem: what it says. The laws are those of proofs/Stable, and of proofs/Shrinking for a threshold above zero. Assumes nothing.
 use Rattle.std.specs.Prelude.{◌≡◌, ◌≢◌, List, [], ◌∷◌, T, Float}
-use Rattle.std.proofs.Math.Path.{refl, ap, subst}
-use Rattle.std.proofs.Common.{sym, ◌∙◌, eq-or-lt_of_le}
-use Rattle.std.proofs.Math.Logic.{⊎_elim}
-use Prim.Native.Nat.{ℕ, suc, ◌+◌, ◌≤◌, ◌<◌}
-use Rattle.std.proofs.Math.Decide.{le_ind}
-use native.Mathlib.Omega.{arith}
+use Prim.Native.Nat.{ℕ, ◌+◌, ◌≤◌}
 use Rattle.std.proofs.Math.ListN.{length}
 use Rattle.steps.specs.Num.{+zero}
 use Rattle.support.specs.Word.{Strict}
-use Rattle.rule.specs.declared.Stop.{Stop}
-use Rattle.rule.specs.declared.Stop.TheVariants.{NoData, FirstRefused, Empty, RefitRefused, Settled, OutOfRounds}
-use Rattle.rule.specs.Rule.{Problem, State, going, done, refit, round, first, rounds, reported, last_stop, finish, fit, past, refitted}
+use Rattle.rule.specs.declared.Stop.TheVariants.{OutOfRounds}
+use Rattle.rule.specs.Rule.{Problem, fit, refitted}
 
 -- a support within the one that was refitted before it, if any
 abbrev pub Below : ℕ → List ℕ → Type 0

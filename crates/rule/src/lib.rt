@@ -1,17 +1,18 @@
 // What a fit is given and what it reports.
 #![tactic(auto)]
 
+mod given;
 pub mod inner;
 
 ghost use Rattle.std.specs.Prelude.{◌≡◌};
-ghost use Rattle.rule.specs.Codes.{by_code, fitted_number, stop_code, stop_term};
+ghost use Rattle.rule.specs.Codes.{by_code, stop_code, stop_term};
 
+pub use given::Given;
 use places::Layout;
-use refusal::{Refusal, number};
 use support::{Support, Term};
 
 // The threshold, lambda and max_iter travel together through every layer.
-#[derive(Clone, Copy)]
+#[derive(Clone, Copy, Debug, PartialEq)]
 pub struct Setup {
     pub threshold: f64,
     pub lambda: f64,
@@ -19,7 +20,7 @@ pub struct Setup {
 }
 
 // How a solve is done: by the normal equations, by least squares, or by the normal equations damped in proportion.
-#[derive(Clone, Copy)]
+#[derive(Clone, Copy, Debug, PartialEq, Eq)]
 pub enum Solver {
     Normal,
     Qr,
@@ -27,7 +28,7 @@ pub enum Solver {
 }
 
 // What a fit is asked for: how it solves, how theta is stored, theta's sizes, and the setup. A header says just this.
-#[derive(Clone, Copy)]
+#[derive(Clone, Copy, Debug, PartialEq)]
 pub struct Task {
     pub solver: Solver,
     pub layout: Layout,
@@ -37,7 +38,7 @@ pub struct Task {
 }
 
 // Why a fit ended; a solve that refused names the term of theta at which it did.
-#[derive(Clone, Copy)]
+#[derive(Clone, Copy, Debug, PartialEq, Eq)]
 pub enum Stop {
     NoData,
     FirstRefused(Term),
@@ -47,15 +48,15 @@ pub enum Stop {
     OutOfRounds,
 }
 
-// Where a look first did not find a term: nowhere, or before the refit of this number, at this coefficient.
-#[derive(Clone, Copy)]
-pub enum Drop {
-    Never,
-    Before(usize, f64),
+// The look that first did not find a term: the one before the refit of this number, at this coefficient.
+#[derive(Clone, Copy, Debug, PartialEq)]
+pub struct Look {
+    pub refit: usize,
+    pub value: f64,
 }
 
 // What stands beside the coefficients: bit j of the kept word is one exactly if the final |c(j)| is at least the threshold, and the squared error is what its terms leave.
-#[derive(Clone, Copy)]
+#[derive(Clone, Copy, Debug, PartialEq)]
 pub struct Report {
     pub stop: Stop,
     pub refits: usize,
@@ -63,43 +64,20 @@ pub struct Report {
     pub error: f64,
 }
 
-// What a fit answers.
-#[derive(Clone, Copy)]
-pub enum Fitted {
-    Fit(Report),
-    Refused(Refusal),
-}
-
-// What a header's code stands for.
-#[derive(Clone, Copy)]
-pub enum Coded {
-    By(Layout, Solver),
-    Unknown,
-}
-
 // The codes of the solvers with theta by rows, and a sixteen more each with theta by columns.
-pub fn by_code(code: u64) -> Coded
+#[tactic(auto, unfolding(crate::specs::Codes::by_code))]
+pub fn by_code(code: u64) -> Option<(Layout, Solver)>
     ensures { result ≡ by_code code }
 {
-    if code == 0x01 {
-        return Coded::By(Layout::ByRows, Solver::Normal);
+    match code {
+        0x01 => Some((Layout::ByRows, Solver::Normal)),
+        0x02 => Some((Layout::ByRows, Solver::Qr)),
+        0x03 => Some((Layout::ByRows, Solver::Marquardt)),
+        0x11 => Some((Layout::ByColumns, Solver::Normal)),
+        0x12 => Some((Layout::ByColumns, Solver::Qr)),
+        0x13 => Some((Layout::ByColumns, Solver::Marquardt)),
+        _ => None,
     }
-    if code == 0x02 {
-        return Coded::By(Layout::ByRows, Solver::Qr);
-    }
-    if code == 0x03 {
-        return Coded::By(Layout::ByRows, Solver::Marquardt);
-    }
-    if code == 0x11 {
-        return Coded::By(Layout::ByColumns, Solver::Normal);
-    }
-    if code == 0x12 {
-        return Coded::By(Layout::ByColumns, Solver::Qr);
-    }
-    if code == 0x13 {
-        return Coded::By(Layout::ByColumns, Solver::Marquardt);
-    }
-    Coded::Unknown
 }
 
 // The code of a stop in document 01.
@@ -121,21 +99,7 @@ pub fn stop_term(s: Stop) -> usize
     ensures { result ≡ stop_term s }
 {
     match s {
-        Stop::NoData => 255,
-        Stop::FirstRefused(t) => t.0,
-        Stop::Empty => 255,
-        Stop::RefitRefused(t) => t.0,
-        Stop::Settled => 255,
-        Stop::OutOfRounds => 255,
-    }
-}
-
-// A fit's answer by number: 0 for a report, else the refusal's.
-pub fn fitted_number(answer: Fitted) -> u64
-    ensures { result ≡ fitted_number answer }
-{
-    match answer {
-        Fitted::Fit(_) => 0,
-        Fitted::Refused(w) => number(w),
+        Stop::FirstRefused(t) | Stop::RefitRefused(t) => t.0,
+        _ => 255,
     }
 }

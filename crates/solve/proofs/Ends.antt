@@ -1,80 +1,37 @@
--- The ways out of a solver's call, over plain values: refused by its sizes, or ended as its solve did. Assumes nothing.
-use mathlib.Core.Path.{◌≡◌, sym, ap, ◌∙◌}
-use mathlib.Core.List.{List}
-use Prim.Native.Nat.{ℕ, ◌+◌, ◌*◌}
-use lib.ListN.{length, take}
-use lib.Ieee.{Float}
-use Rattle.steps.specs.Loops.{Way}
-use Rattle.steps.specs.Space.{cleared}
-use Rattle.refusal.specs.Answers.{told, answered, Solution}
-use Rattle.refusal.specs.Told.{ended_told, final_told}
-use Rattle.refusal.specs.declared.Answer.{Answer}
-use Rattle.refusal.specs.declared.Answer.TheVariants.{Done, Refused}
+-- How a solver's work ends, over plain values: what it answers, and what clearing forgets. Assumes nothing.
+use Rattle.std.specs.Prelude.{◌≡◌, List, ◌++◌, ℕ, ◌+◌, ◌-◌, ◌≤◌, length, take, drop, Ok, Err, MatchResult, IsErrAnd, Float}
+use Rattle.std.proofs.Common.{ap, ◌∙◌, drop-drop, arith}
+use Rattle.std.proofs.Math.Seq.{drop-append-add}
+use Rattle.std.proofs.lemmas.Result.{err_from_is_err_and}
+use Rattle.steps.specs.Space.{cleared, cleared_same}
+use Rattle.refusal.specs.Answers.{Answer, Solved, told, answered, Solution}
 use Rattle.refusal.specs.declared.Refusal.{Refusal}
-use Rattle.refusal.specs.declared.Refusal.TheVariants.{NotSpd, SmallPivot}
-use Rattle.refusal.specs.declared.Solved.{Solved}
-use Rattle.refusal.specs.declared.Solved.TheVariants as S
-use Rattle.normal.specs.Normal.{normal}
-use Rattle.inverse.specs.Inverse.{invert}
-use Rattle.least.specs.Least.{values, least}
-use Rattle.solve.specs.Calls.{square_sizes, SquareCall, normal_sizes, NormalCall, invert_sizes, InvertCall, least_need, least_sizes, LeastLeft, LeastCall}
+use Rattle.refusal.specs.declared.Refusal.TheVariants.{SmallPivot}
+use Rattle.least.specs.Least.{values}
+use Rattle.solve.specs.Calls.{LeastLeft}
 
-module _ {why : ℕ → Refusal} {solve : Way (List Float × List Float)} {a b : List Float} {n : ℕ} {sizes : Answer} (judged : sizes ≡ square_sizes n (length a) (length b)) where
-  pub square_refused : {w : Refusal} → sizes ≡ Refused w → SquareCall why solve a b n a b sizes
-  square_refused e = record { sizes = sizes; judged = judged; answer = rw e; matrix = rw e; right = rw e }
-
-  pub square_solved : (s : Solved) {a' b' : List Float} {r : Answer} → sizes ≡ Done → told s (a', b') ≡ solve → r ≡ answered why s → SquareCall why solve a b n a' b' r
-  square_solved s {a'} {b'} e t q =
-      let both = final_told {A = List Float × List Float} s (a', b') in
-      record {
-        sizes = sizes;
-        judged = judged;
-        answer = rw (e, ← t) (q ∙ sym (ended_told why s (a', b')));
-        matrix = rw (e, ← t) (ap (λ (x : List Float × List Float). x.0) (sym both));
-        right = rw (e, ← t) (ap (λ (x : List Float × List Float). x.1) (sym both));
-      }
-
-module _ {a b : List Float} {n : ℕ} {w : List Float} {sizes : Answer} (judged : sizes ≡ normal_sizes n (length a) (length b) (length w)) where
-  pub normal_refused : {x : Refusal} → sizes ≡ Refused x → NormalCall a b n b w w sizes
-  normal_refused e = record { sizes = sizes; judged = judged; answer = rw e; right = rw e; space = rw e }
-
-  pub normal_solved : (s : Solved) {b' w' : List Float} {r : Answer} → sizes ≡ Done → told s b' ≡ normal n a b → w' ≡ cleared (n * n) w → r ≡ answered SmallPivot s → NormalCall a b n b' w w' r
-  normal_solved s {b'} e t k q =
-      record {
-        sizes = sizes;
-        judged = judged;
-        answer = rw (e, ← t) (q ∙ sym (ended_told SmallPivot s b'));
-        right = rw (e, ← t) (sym (final_told s b'));
-        space = rw e k;
-      }
-
-module _ {a : List Float} {n : ℕ} {o w : List Float} {sizes : Answer} (judged : sizes ≡ invert_sizes n (length a) (length o) (length w)) where
-  pub invert_refused : {x : Refusal} → sizes ≡ Refused x → InvertCall a n o o w w sizes
-  invert_refused e = record { sizes = sizes; judged = judged; answer = rw e; out = rw e; space = rw e }
-
-  pub invert_solved : (s : Solved) {o' w' : List Float} {r : Answer} → sizes ≡ Done → told s o' ≡ invert n a o → w' ≡ cleared (n * n + n) w → r ≡ answered NotSpd s → InvertCall a n o o' w w' r
-  invert_solved s {o'} e t k q =
-      record {
-        sizes = sizes;
-        judged = judged;
-        answer = rw (e, ← t) (q ∙ sym (ended_told NotSpd s o'));
-        out = rw (e, ← t) (sym (final_told s o'));
-        space = rw e k;
-      }
+-- a refusal that is mapped to w of its column
+pub mapped : (w : ℕ → Refusal) (s : Solved) (r : Answer) {P : ℕ → Refusal → Type 0} → ((c : ℕ) (y : Refusal) → P c y → y ≡ w c) →
+    MatchResult s (λ x. r ≡ Ok x) (λ e. IsErrAnd r (P e)) → r ≡ answered w s
+mapped w (Ok done) r k h = h
+mapped w (Err c) r k h = let p = err_from_is_err_and r h in p.1 ∙ ap Err (k c p.0 p.2)
 
 module _ (n : ℕ) {x : Solution} {o : List Float} where
   -- least squares that is refused leaves the output as it was
-  pub least_stops : (s : Solved) {c : ℕ} (y : List Float) {r : Answer} → s ≡ S.Refused c → values n (told s y) ≡ x → r ≡ answered SmallPivot s → LeastLeft x o o r
+  pub least_stops : (s : Solved) (y : List Float) {r : Answer} {e : Refusal} → r ≡ answered SmallPivot s → r ≡ Err e → values n (told s y) ≡ x → LeastLeft x o o r
   unfolding values
-  least_stops s y e t i = let q = rw e at t in record { answer = rw (← q) (rw e at i); out = rw (← q) }
+  least_stops (Ok done) y i e t = let z : ◌≡◌ {A = ℕ} 0 1 = cc in absurd (omega arith)
+  least_stops (Err c) y i e t = record { answer = rw (← t) i; out = rw (← t) }
 
-  pub least_solves : (s : Solved) (y : List Float) {o' : List Float} → s ≡ S.Done → values n (told s y) ≡ x → o' ≡ take n y → LeastLeft x o o' Done
+  pub least_solves : (s : Solved) (y : List Float) {o' : List Float} {r : Answer} → r ≡ answered SmallPivot s → r ≡ Ok tt → values n (told s y) ≡ x → o' ≡ take n y → LeastLeft x o o' (Ok tt)
   unfolding values
-  least_solves s y e t out = let q = rw e at t in record { answer = rw (← q); out = rw (← q) out }
+  least_solves (Ok done) y i e t out = record { answer = rw (← t); out = rw (← t) out }
+  least_solves (Err c) y i e t out = let z : ◌≡◌ {A = ℕ} 0 1 = cc in absurd (omega arith)
 
-module _ {a b : List Float} {m n : ℕ} {o w : List Float} {sizes : Answer} (judged : sizes ≡ least_sizes m n (length a) (length b) (length o) (length w)) where
-  pub least_refused : {x : Refusal} → sizes ≡ Refused x → LeastCall a b m n o o w w sizes
-  least_refused e = record { sizes = sizes; judged = judged; answer = rw e; out = rw e; space = rw e }
-
-  pub least_solved : {o' w' : List Float} {r : Answer} → sizes ≡ Done → LeastLeft (least m n a b) o o' r → w' ≡ cleared (least_need m n) w → LeastCall a b m n o o' w w' r
-  least_solved e q k = record { sizes = sizes; judged = judged; answer = rw e q.answer; out = rw e q.out; space = rw e k }
+-- clearing a workspace forgets what was left in the head that is cleared
+pub cleared_front : (k need : ℕ) (t w : List Float) → k ≤ need → length t ≡ k → cleared need (t ++ drop k w) ≡ cleared need w
+cleared_front k need t w h len =
+    cleared_same need _ _
+    (ap (λ (i : ℕ). drop i (t ++ drop k w)) (let e : need ≡ length t + (need - k) = omega (arith, len) in e)
+    ∙ drop-append-add t _ _ ∙ drop-drop (need - k) k w
+    ∙ ap (λ (i : ℕ). drop i w) (let e : k + (need - k) ≡ need = omega arith in e))

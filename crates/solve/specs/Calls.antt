@@ -1,10 +1,8 @@
 -- What the solvers answer and leave. Assumes nothing.
-use Rattle.std.specs.Prelude.{◌≡◌, not, List, ℕ, ◌+◌, ◌*◌, ltb, eqb, length, Float}
+use Rattle.std.specs.Prelude.{Err, Ok, ◌≡◌, not, List, ℕ, ◌+◌, ◌*◌, ltb, eqb, length, Float}
 use Rattle.steps.specs.Loops.{Way, final}
 use Rattle.steps.specs.Space.{cleared}
-use Rattle.refusal.specs.Answers.{refuse_if, if_done, and_then, ended, Solution, solved, refused}
-use Rattle.refusal.specs.declared.Answer.{Answer}
-use Rattle.refusal.specs.declared.Answer.TheVariants.{Done, Refused}
+use Rattle.refusal.specs.Answers.{refuse_if, if_done, and_then, ended, Solution, solved, refused, Answer}
 use Rattle.refusal.specs.declared.Refusal.{Refusal}
 use Rattle.refusal.specs.declared.Refusal.TheVariants.{ManyColumns, ManyRows, MatrixLength, TargetLength, OutputLength, FewRows, WorkspaceShort, NotSpd, SmallPivot}
 use Rattle.cholesky.specs.Cholesky.{cholesky}
@@ -21,11 +19,11 @@ square_sizes n matrix right =
     refuse_if (ltb 64 n) ManyColumns
     (refuse_if (not (eqb matrix (n * n))) MatrixLength
     (refuse_if (not (eqb right n)) TargetLength
-    Done))
+    (Ok tt)))
 
 -- the normal equations need n² numbers of workspace
 unfoldable pub normal_sizes : ℕ → ℕ → ℕ → ℕ → Answer
-normal_sizes n matrix right space = and_then (square_sizes n matrix right) (refuse_if (ltb space (n * n)) WorkspaceShort Done)
+normal_sizes n matrix right space = and_then (square_sizes n matrix right) (refuse_if (ltb space (n * n)) WorkspaceShort (Ok tt))
 
 -- the inverse needs n² + n
 unfoldable pub invert_sizes : ℕ → ℕ → ℕ → ℕ → Answer
@@ -34,7 +32,7 @@ invert_sizes n matrix out space =
     (refuse_if (not (eqb matrix (n * n))) MatrixLength
     (refuse_if (not (eqb out (n * n))) OutputLength
     (refuse_if (ltb space (n * n + n)) WorkspaceShort
-    Done)))
+    (Ok tt))))
 
 -- the workspace of least squares: m·n + 2·m + 2·n
 unfoldable pub least_need : ℕ → ℕ → ℕ
@@ -50,7 +48,7 @@ least_sizes m n matrix right out space =
     (refuse_if (not (eqb out n)) OutputLength
     (refuse_if (ltb m n) FewRows
     (refuse_if (ltb space (least_need m n)) WorkspaceShort
-    Done))))))
+    (Ok tt)))))))
 
 -- ---- calls: refused sizes leave every slice unchanged
 
@@ -88,8 +86,8 @@ pub record InvertCall (a : List Float) (n : ℕ) (o o' w w' : List Float) (r : A
 
 -- a solution as an answer, and what it leaves in the output: a refusal leaves it unchanged
 abbrev pub least_answer : Solution → Answer
-least_answer (solved x) = Done
-least_answer (refused c) = Refused (SmallPivot c)
+least_answer (solved x) = Ok tt
+least_answer (refused c) = Err (SmallPivot c)
 
 abbrev pub least_out : Solution → List Float → List Float
 least_out (solved x) old = x

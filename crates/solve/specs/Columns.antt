@@ -1,14 +1,10 @@
 -- The column that a solver's refusal carries is one of the matrix. Assumes nothing.
-use Rattle.std.specs.Prelude.{◌≡◌, refl, not, List, ℕ, ◌+◌, ◌*◌, ◌<◌, ltb, eqb, length, Float}
+use Rattle.std.specs.Prelude.{Err, None, Ok, Some, ◌≡◌, refl, not, List, ℕ, ◌+◌, ◌*◌, ◌<◌, ltb, eqb, length, Option, Float}
 use Rattle.std.proofs.Common.{sym, ap, ◌∙◌}
 use Rattle.std.proofs.Math.Path.{subst}
 use Rattle.steps.specs.Cond.{either}
 use Rattle.steps.specs.Loops.{Way, going, stopped, StopsBelow}
-use Rattle.refusal.specs.Answers.{column_of, answer_column, and_then, ended, Solution, solved, refused, Within}
-use Rattle.refusal.specs.declared.Column.{Column}
-use Rattle.refusal.specs.declared.Column.TheVariants.{None, At}
-use Rattle.refusal.specs.declared.Answer.{Answer}
-use Rattle.refusal.specs.declared.Answer.TheVariants.{Done, Refused}
+use Rattle.refusal.specs.Answers.{column_of, answer_column, and_then, ended, Solution, solved, refused, Within, Answer}
 use Rattle.refusal.specs.declared.Refusal.{Refusal}
 use Rattle.refusal.specs.declared.Refusal.TheVariants.{NotSpd, SmallPivot}
 use Rattle.cholesky.specs.Cholesky.{cholesky}
@@ -21,16 +17,16 @@ use Rattle.normal.specs.Refuses.{normal_refuses}
 use Rattle.normal.specs.Normal.{normal}
 use Rattle.least.specs.Refuses.{least_refuses}
 use Rattle.least.specs.Least.{least}
-use Rattle.solve.specs.Calls.{square_sizes, normal_sizes, invert_sizes, least_need, least_sizes, SquareCall, CholeskyCall, LuCall, NormalCall, InvertCall, least_answer, LeastCall}
+use Rattle.solve.specs.Calls.{square_sizes, normal_sizes, invert_sizes, least_need, least_sizes, CholeskyCall, LuCall, NormalCall, InvertCall, least_answer, LeastCall}
 
 -- an answer that tells no column, or one below n
-InMatrix : ℕ → Column → Type 0
+InMatrix : ℕ → Option ℕ → Type 0
 InMatrix n None = Unit {0}
-InMatrix n (At c) = c < n
+InMatrix n (Some c) = c < n
 
 -- every column that an answer tells is below n
 abbrev pub ColumnBelow : ℕ → Answer → Type 0
-ColumnBelow n r = (c : ℕ) → answer_column r ≡ At c → c < n
+ColumnBelow n r = (c : ℕ) → answer_column r ≡ Some c → c < n
 
 module _ (n : ℕ) where
   -- of an answer
@@ -45,8 +41,8 @@ module _ (n : ℕ) where
   -- the first that applies
   both : (a b : Answer) → M a → M b → M (and_then a b)
   unfolding M InMatrix
-  both Done b p q = q
-  both (Refused w) b p q = p
+  both (Ok done) b p q = q
+  both (Err w) b p q = p
 
   -- no refusal for size tells one
   square : (matrix right : ℕ) → M (square_sizes n matrix right)
@@ -72,7 +68,7 @@ module _ (n : ℕ) where
       (λ f. either M (ltb space (least_need m n)) _ _ (λ t. tt) (λ f. tt)))))))
 
   -- a solve that stops tells its own, by a refusal that carries it
-  ended_at : {S : Type 0} (why : ℕ → Refusal) → ((c : ℕ) → column_of (why c) ≡ At c) → (w : Way S) → StopsBelow n w → M (ended why w)
+  ended_at : {S : Type 0} (why : ℕ → Refusal) → ((c : ℕ) → column_of (why c) ≡ Some c) → (w : Way S) → StopsBelow n w → M (ended why w)
   unfolding M InMatrix
   ended_at why carries (going s) p = tt
   ended_at why carries (stopped c s) p = subst (InMatrix n) (sym (carries c)) p

@@ -1,10 +1,9 @@
 -- What the sizes of a solver tell that are not refused. Assumes nothing.
-use Rattle.std.specs.Prelude.{◌≡◌, refl, not, ℕ, ◌+◌, ◌*◌, ◌≤◌, ltb, eqb}
+use Rattle.std.specs.Prelude.{Ok, ◌≡◌, refl, not, ℕ, ◌+◌, ◌*◌, ◌≤◌, ltb, eqb}
 use Rattle.std.proofs.Common.{sym, ◌∙◌, ltb-false, eqb-true}
 use Rattle.std.proofs.lemmas.Bool.{not-false}
 use Rattle.refusal.specs.Ladder.{not_refused, both_done}
-use Rattle.refusal.specs.declared.Answer.{Answer}
-use Rattle.refusal.specs.declared.Answer.TheVariants.{Done}
+use Rattle.refusal.specs.Answers.{Answer}
 use Rattle.refusal.specs.declared.Refusal.TheVariants.{ManyColumns, ManyRows, MatrixLength, TargetLength, OutputLength, FewRows, WorkspaceShort}
 use Rattle.solve.specs.Calls.{square_sizes, normal_sizes, invert_sizes, least_need, least_sizes}
 
@@ -14,7 +13,7 @@ pub record Square (n matrix right : ℕ) : Type 0 where
   pub square : matrix ≡ n * n
   pub column : right ≡ n
 
-pub square_fits : {n matrix right : ℕ} {sizes : Answer} → sizes ≡ square_sizes n matrix right → sizes ≡ Done → Square n matrix right
+pub square_fits : {n matrix right : ℕ} {sizes : Answer} → sizes ≡ square_sizes n matrix right → sizes ≡ Ok tt → Square n matrix right
 unfolding square_sizes
 square_fits {n} {matrix} {right} judged e =
     let few = not_refused (ltb 64 n) ManyColumns _ (sym judged ∙ e) in
@@ -23,7 +22,7 @@ square_fits {n} {matrix} {right} judged e =
     record { few = ltb-false _ _ few.0; square = eqb-true _ _ (not-false _ square.0); column = eqb-true _ _ (not-false _ column.0) }
 
 -- with the workspace of the normal equations
-pub normal_fits : {n matrix right space : ℕ} {sizes : Answer} → sizes ≡ normal_sizes n matrix right space → sizes ≡ Done → Square n matrix right × (n * n ≤ space)
+pub normal_fits : {n matrix right space : ℕ} {sizes : Answer} → sizes ≡ normal_sizes n matrix right space → sizes ≡ Ok tt → Square n matrix right × (n * n ≤ space)
 unfolding normal_sizes
 normal_fits {n} {matrix} {right} {space} judged e =
     let both = both_done (square_sizes n matrix right) _ (sym judged ∙ e) in
@@ -35,7 +34,7 @@ pub record InvertSized (n matrix out : ℕ) : Type 0 where
   pub square : matrix ≡ n * n
   pub alike : out ≡ n * n
 
-pub invert_fits : {n matrix out space : ℕ} {sizes : Answer} → sizes ≡ invert_sizes n matrix out space → sizes ≡ Done → InvertSized n matrix out × (n * n + n ≤ space)
+pub invert_fits : {n matrix out space : ℕ} {sizes : Answer} → sizes ≡ invert_sizes n matrix out space → sizes ≡ Ok tt → InvertSized n matrix out × (n * n + n ≤ space)
 unfolding invert_sizes
 invert_fits {n} {matrix} {out} {space} judged e =
     let few = not_refused (ltb 64 n) ManyColumns _ (sym judged ∙ e) in
@@ -53,7 +52,7 @@ pub record LeastSized (m n matrix right out : ℕ) : Type 0 where
   pub values : out ≡ n
   pub tall : n ≤ m
 
-pub least_fits : {m n matrix right out space : ℕ} {sizes : Answer} → sizes ≡ least_sizes m n matrix right out space → sizes ≡ Done → LeastSized m n matrix right out × (least_need m n ≤ space)
+pub least_fits : {m n matrix right out space : ℕ} {sizes : Answer} → sizes ≡ least_sizes m n matrix right out space → sizes ≡ Ok tt → LeastSized m n matrix right out × (least_need m n ≤ space)
 unfolding least_sizes
 least_fits {m} {n} {matrix} {right} {out} {space} judged e =
     let few = not_refused (ltb 64 n) ManyColumns _ (sym judged ∙ e) in

@@ -1,6 +1,6 @@
 -- Each solver's contract determines its answer and every number that it leaves. Assumes nothing.
 use Rattle.std.specs.Prelude.{◌≡◌, List, ℕ, Float}
-use Rattle.refusal.specs.declared.Answer.{Answer}
+use Rattle.refusal.specs.Answers.{Answer}
 use Rattle.solve.specs.Calls.{CholeskyCall, LuCall, NormalCall, InvertCall, LeastCall}
 
 pub cholesky_unique : (a b : List Float) (n : ℕ) (a' b' a'' b'' : List Float) (r s : Answer) → CholeskyCall a b n a' b' r → CholeskyCall a b n a'' b'' s → (r ≡ s) × (a' ≡ a'') × (b' ≡ b'')

@@ -1,4 +1,6 @@
 // The first refusal that applies to a solver, by its sizes and the lengths of its slices.
+#![tactic(auto, using(refusal::specs::Ladder::ladder), unfolding(crate::specs::Calls::square_sizes, crate::specs::Calls::normal_sizes, crate::specs::Calls::invert_sizes, crate::specs::Calls::least_need, crate::specs::Calls::least_sizes))]
+
 ghost use Rattle.std.specs.Prelude.{◌≡◌, ◌≤◌};
 ghost use Rattle.solve.specs.Calls.{square_sizes, normal_sizes, invert_sizes, least_need, least_sizes};
 
@@ -9,29 +11,26 @@ pub fn square_sizes(n: usize, matrix: usize, right: usize) -> Answer
     ensures { result ≡ square_sizes n matrix right }
 {
     if n > 64 {
-        return Answer::Refused(Refusal::ManyColumns);
+        return Err(Refusal::ManyColumns);
     }
     if matrix != n * n {
-        return Answer::Refused(Refusal::MatrixLength);
+        return Err(Refusal::MatrixLength);
     }
     if right != n {
-        return Answer::Refused(Refusal::TargetLength);
+        return Err(Refusal::TargetLength);
     }
-    Answer::Done
+    Ok(())
 }
 
 // The same with a workspace.
 pub fn normal_sizes(n: usize, matrix: usize, right: usize, space: usize) -> Answer
     ensures { result ≡ normal_sizes n matrix right space }
 {
-    let square = square_sizes(n, matrix, right);
-    let Answer::Done = square else {
-        return square;
-    };
+    square_sizes(n, matrix, right)?;
     if space < n * n {
-        return Answer::Refused(Refusal::WorkspaceShort);
+        return Err(Refusal::WorkspaceShort);
     }
-    Answer::Done
+    Ok(())
 }
 
 // A square matrix of n columns, its inverse and the workspace.
@@ -39,18 +38,18 @@ pub fn invert_sizes(n: usize, matrix: usize, out: usize, space: usize) -> Answer
     ensures { result ≡ invert_sizes n matrix out space }
 {
     if n > 64 {
-        return Answer::Refused(Refusal::ManyColumns);
+        return Err(Refusal::ManyColumns);
     }
     if matrix != n * n {
-        return Answer::Refused(Refusal::MatrixLength);
+        return Err(Refusal::MatrixLength);
     }
     if out != n * n {
-        return Answer::Refused(Refusal::OutputLength);
+        return Err(Refusal::OutputLength);
     }
     if space < n * n + n {
-        return Answer::Refused(Refusal::WorkspaceShort);
+        return Err(Refusal::WorkspaceShort);
     }
-    Answer::Done
+    Ok(())
 }
 
 // The workspace of least squares, in numbers.
@@ -73,25 +72,25 @@ pub fn least_sizes(
     ensures { result ≡ least_sizes m n matrix right out space }
 {
     if n > 64 {
-        return Answer::Refused(Refusal::ManyColumns);
+        return Err(Refusal::ManyColumns);
     }
     if m > 4160 {
-        return Answer::Refused(Refusal::ManyRows);
+        return Err(Refusal::ManyRows);
     }
     if matrix != m * n {
-        return Answer::Refused(Refusal::MatrixLength);
+        return Err(Refusal::MatrixLength);
     }
     if right != m {
-        return Answer::Refused(Refusal::TargetLength);
+        return Err(Refusal::TargetLength);
     }
     if out != n {
-        return Answer::Refused(Refusal::OutputLength);
+        return Err(Refusal::OutputLength);
     }
     if m < n {
-        return Answer::Refused(Refusal::FewRows);
+        return Err(Refusal::FewRows);
     }
     if space < least_need(m, n) {
-        return Answer::Refused(Refusal::WorkspaceShort);
+        return Err(Refusal::WorkspaceShort);
     }
-    Answer::Done
+    Ok(())
 }

@@ -17,6 +17,10 @@ cleared k s = replicate k +zero ++ drop k s
 abbrev pub part : ℕ → ℕ → List Float → List Float
 part a e s = take (e - a) (drop a s)
 
+-- what stands in it
+pub at_part : (a e : ℕ) (s : List Float) (m : ℕ) → m < e - a → at (part a e s) m ≡ at s (a + m)
+at_part a e s m l = get_or-take (e - a) (drop a s) m nan l ∙ rw get_or-drop
+
 -- s with the part from a to below e taken by t, as a lent part comes back
 unfoldable pub with_part : ℕ → ℕ → List Float → List Float → List Float
 with_part a e t s = take a s ++ (t ++ drop (e - a) (drop a s))
@@ -28,6 +32,11 @@ swapped x y l = set (set l x (at l y)) y (at l x)
 pub cleared_none : (s : List Float) → s ≡ cleared 0 s
 unfolding cleared
 cleared_none s = refl
+
+-- a head that is filled with zeros
+pub cleared_filled : (k : ℕ) (s t : List Float) → k ≤ length s → t ≡ replicate (length (take k s)) +zero → t ++ drop k s ≡ cleared k s
+unfolding cleared
+cleared_filled k s t h e = let e₁ : length (take k s) ≡ k = simp length-take (omega arith) in rw (e, e₁)
 
 fill_suc : (k : ℕ) (v : Float) (d : List Float) → k < length d → set (replicate k v ++ drop k d) k v ≡ replicate (suc k) v ++ drop (suc k) d
 fill_suc k v [] l = absurd (not-suc-le-zero l)

@@ -1,4 +1,5 @@
--- From the rounds to the report, and from the report to the call. Assumes nothing.
+-- From the rounds to the report. Assumes nothing.
+use Rattle.std.specs.Prelude.{Option}
 use mathlib.Core.Path.{◌≡◌, sym, ap, ap₂, ◌∙◌}
 use mathlib.Core.Bool.{cond}
 use mathlib.Core.List.{List}
@@ -6,23 +7,16 @@ use Prim.Native.Nat.{ℕ}
 use lib.ListN.{length}
 use lib.Ieee.{Float}
 use Rattle.steps.specs.Num.{+zero, at}
-use Rattle.steps.specs.Space.{cleared}
 use Rattle.steps.specs.Table.{tab}
 use Rattle.support.specs.Word.{word}
 use Rattle.support.specs.declared.Support.{Support}
-use Rattle.refusal.specs.declared.Answer.{Answer}
-use Rattle.refusal.specs.declared.Answer.TheVariants as A
-use Rattle.refusal.specs.declared.Refusal.{Refusal}
 use Rattle.rule.specs.declared.Task.{Task}
 use Rattle.rule.specs.declared.Stop.{Stop}
-use Rattle.rule.specs.declared.Drop.{Drop}
-use Rattle.rule.specs.declared.Report.{Report}
-use Rattle.rule.specs.declared.Fitted.TheVariants as F
+use Rattle.rule.specs.declared.Look.{Look}
 use Rattle.leftover.specs.Error.{squared_error}
 use Rattle.rule.specs.Rule.{reported, pruned, support}
 use Rattle.rule.specs.Fits.{keeps, clears, problem, fit_by, matrix_of, problem_of, fit_of}
-use Rattle.rule.specs.Sizes.{task_need, fit_sizes}
-use Rattle.rule.specs.Calls.{report_of, FitCall}
+use Rattle.rule.specs.Calls.{report_of}
 use Rattle.rule.proofs.Endings.{kept_is}
 use Rattle.rule.proofs.Errors.{error_is}
 use Rattle.rounds.specs.Ran.{CameTo}
@@ -30,7 +24,7 @@ use Rattle.strlsq.specs.Ends.{Ends}
 
 module _ (task : Task) (theta target : List Float) where
   -- the rounds and the last pass end the fit
-  pub ends : {j : ℕ} {drop : Drop} (stop : Stop) (refits : ℕ) (cs cs' : List Float) → length cs ≡ task.cols
+  pub ends : {j : ℕ} {drop : Option Look} (stop : Stop) (refits : ℕ) (cs cs' : List Float) → length cs ≡ task.cols
       → CameTo (problem_of task theta target) task.setup.max_iter j stop refits drop cs
       → cs' ≡ tab (length cs) (λ j. cond (clears task.setup j (at cs j)) +zero (at cs j))
       → Ends (fit_of task theta target) stop refits cs'
@@ -54,13 +48,3 @@ module _ (task : Task) (theta target : List Float) where
       let error-of : error ≡ fit.error
       = q ∙ ap₂ (squared_error task.rows task.cols (matrix_of task theta) (at target)) word_of f.coeffs ∙ sym (error_is task (matrix_of task theta) (at target)) in
       rw (f.stop, f.refits) (ap₂ (λ (w : ℕ) (x : Float). record { stop = fit.stop; refits = fit.refits; kept = record { 0 = w }; error = x }) word_of error-of)
-
-  -- a refusal leaves all unchanged
-  pub fit_refused : (a : Answer) (w : Refusal) (cs ws : List Float) → a ≡ fit_sizes task (length theta) (length target) (length cs) (length ws) → a ≡ A.Refused w
-      → FitCall task theta target cs cs ws ws (F.Refused w)
-  fit_refused a w cs ws e t = record { sizes = a; judged = e; answer = rw t; coeffs = rw t; space = rw t }
-
-  -- where nothing is refused
-  pub fit_accepted : (a : Answer) (cs cs' ws ws' : List Float) (r : Report) → a ≡ fit_sizes task (length theta) (length target) (length cs) (length ws) → a ≡ A.Done
-      → r ≡ report_of (fit_of task theta target) → cs' ≡ (fit_of task theta target).coeffs → ws' ≡ cleared (task_need task) ws → FitCall task theta target cs cs' ws ws' (F.Fit r)
-  fit_accepted a cs cs' ws ws' r e t p l q = record { sizes = a; judged = e; answer = rw t (ap F.Fit p); coeffs = rw t l; space = rw t q }

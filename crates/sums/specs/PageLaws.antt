@@ -9,7 +9,6 @@ use Rattle.steps.specs.Num.{times, +zero, Entry, at, cell}
 use Rattle.steps.specs.Sums.{sum, sum_none, sum_cong, sum_on}
 use Rattle.steps.specs.Table.{table, is_table, is_tab}
 use Rattle.steps.specs.Rows.{Rows}
-use Rattle.steps.specs.Wrote.{Wrote}
 use Rattle.pairs.specs.Grown.{grown, Grew}
 use Rattle.places.specs.Down.{HoldsAt}
 use Rattle.sums.specs.Products.{gram, moment, jtr_column}
@@ -18,12 +17,12 @@ use Rattle.sums.specs.Inner.{Filled}
 use Rattle.sums.specs.Pages.{Holds, UpperSums, upper, with_targets}
 
 -- the numbers of theta from row i on, as they stand, are those rows
-pub holds_rows : (theta : List Float) (n i h m : ℕ) (page page' : List Float) → h * n ≤ m → Wrote (λ k. k) 0 m (λ k. at theta (i * n + k)) page page' → Holds (cell n theta) n i h page'
-holds_rows theta n i h m page page' all w =
+pub holds_rows : (theta : List Float) (n i h m : ℕ) (page : List Float) → h * n ≤ m → ((k : ℕ) → k < m → at page k ≡ at theta (i * n + k)) → Holds (cell n theta) n i h page
+holds_rows theta n i h m page all w =
     record {
       each = λ k c hk hc.
           let e : i * n + (k * n + c) ≡ (i + k) * n + c = omega arith in
-          w.done (k * n + c) (omega arith) (omega (arith, digits_lt hk hc)) ∙ ap (at theta) e;
+          w (k * n + c) (omega (arith, digits_lt hk hc)) ∙ ap (at theta) e;
     }
 
 -- all its columns, one after another

@@ -1,7 +1,7 @@
 -- Four columns of a page are written row by row. Assumes nothing.
 use Rattle.std.specs.Prelude.{◌≡◌, List, ℕ, ◌+◌, ◌-◌, ◌*◌, ◌≤◌, ◌<◌, Float}
-use Rattle.std.proofs.Common.{sym, ◌∙◌, subst, inl, inr, ⊎_elim, eq-or-lt_of_le, arith}
-use Rattle.steps.specs.Num.{Entry, at, cell}
+use Rattle.std.proofs.Common.{◌∙◌, subst, ⊎_elim, eq-or-lt_of_le, arith}
+use Rattle.steps.specs.Num.{Entry, cell}
 use Rattle.steps.specs.Cond.{lt_or_ge}
 use Rattle.steps.specs.Table.{same_cell}
 use Rattle.steps.specs.Wrote.{Wrote}

@@ -7,6 +7,7 @@ pub mod walk;
 ghost use Rattle.std.specs.Prelude.{◌≡◌, ◌*◌, length};
 ghost use Rattle.steps.specs.Num.{at, cell as cell_of};
 ghost use Rattle.steps.specs.Table.{table};
+ghost use Rattle.places.specs.Theta.{entries};
 ghost use Rattle.sums.specs.Products.{gram, moment, marquardt, jtj_matrix, jtr_column};
 ghost use Rattle.sums.specs.Inner.{Matrix, damps};
 
@@ -14,20 +15,21 @@ use crate::inner::mirror::mirror;
 use crate::inner::pages::add_rows;
 use crate::inner::walk::take_targets;
 use float64::abs;
-use slices::inner::{cell, clear, put};
+use places::Theta;
+use slices::inner::{cell, put};
 
 // jtj before it is damped: the pair sums of every two columns, in one walk over the rows.
-pub fn jtj_sums(theta: &[f64], n_rows: usize, n_cols: usize, out: &mut [f64])
-    requires { Matrix n_rows n_cols (length theta.now) × (length out.old ≡ n_cols * n_cols) }
-    ensures { out.new ≡ table n_cols n_cols (gram (cell_of n_cols theta.now) n_rows) }
+pub fn jtj_sums(theta: Theta<'_>, out: &mut [f64])
+    requires { length out.old ≡ theta.cols * theta.cols }
+    ensures { out.new ≡ table theta.entry.cols theta.entry.cols (gram (entries theta.entry) theta.entry.rows) }
 {
-    clear(out, n_cols * n_cols);
-    add_rows(theta, n_rows, n_cols, out);
-    mirror(out, n_cols);
+    out.fill(0.0);
+    add_rows(theta, out);
+    mirror(out, theta.cols);
 }
 
 // How the diagonal of a finished matrix is damped: by lambda as it stands, or by lambda in proportion to the number.
-#[derive(Clone, Copy)]
+#[derive(Clone, Copy, Debug, PartialEq)]
 pub enum Damping {
     Ridge(f64),
     Proportion(f64),
@@ -37,10 +39,11 @@ pub enum Damping {
 fn marquardt(lambda: f64, d: f64) -> f64
     ensures { result ≡ marquardt lambda d }
 {
-    if abs(d) < 2.220446049250313e-16 {
-        return d + lambda;
+    if abs(d) < f64::EPSILON {
+        d + lambda
+    } else {
+        d + lambda * d
     }
-    d + lambda * d
 }
 
 // A finished diagonal number, damped.
@@ -69,6 +72,6 @@ pub fn jtr_sums(theta: &[f64], target: &[f64], n_rows: usize, n_cols: usize, out
     requires { Matrix n_rows n_cols (length theta.now) × (length target.now ≡ n_rows) × (length out.old ≡ n_cols) }
     ensures { out.new ≡ jtr_column n_cols (moment (cell_of n_cols theta.now) (at target.now) n_rows) }
 {
-    clear(out, n_cols);
+    out.fill(0.0);
     take_targets(theta, n_cols, n_rows, target, 0, out);
 }

@@ -1,28 +1,21 @@
 // The support of a fit: which terms are in it, as a value of 64 bits. Every method is total: a term of 64 or more is in no support.
 #![tactic(auto)]
 
-ghost use Rattle.std.specs.Prelude.{◌≡◌, eqb};
+ghost use Rattle.std.specs.Prelude.{◌≡◌};
 ghost use Rattle.std.specs.Int.Count.{ones};
 ghost use Rattle.support.specs.Word.{has, place as place_of, alone as alone_of, full as full_of, with_term, without_term, term_at};
 
 // A term number: it counts columns of theta.
-#[derive(Clone, Copy)]
+#[derive(Clone, Copy, Debug, PartialEq, Eq)]
 pub struct Term(pub usize);
 
 // A reduced place: it counts columns of the refit.
-#[derive(Clone, Copy)]
+#[derive(Clone, Copy, Debug, PartialEq, Eq)]
 pub struct Col(pub usize);
 
 // Bit j of the word is one exactly if the term j is in the support.
-#[derive(Clone, Copy)]
+#[derive(Clone, Copy, Debug, PartialEq, Eq)]
 pub struct Support(pub u64);
-
-// A cast of a parameter asks nothing.
-fn wide(x: u32) -> usize
-    ensures { result ≡ x }
-{
-    x as usize
-}
 
 // The word of the term alone: no bit where the term is 64 or more.
 fn alone(t: Term) -> u64
@@ -81,7 +74,7 @@ impl Support {
     pub fn count(self) -> usize
         ensures { result ≡ ones self.0 }
     {
-        wide(u64::count_ones(self.0))
+        self.0.count_ones() as usize
     }
 
     // How many terms below this one are in the support, its reduced place if it is in: the count of all where the term is 64 or more.
@@ -91,26 +84,18 @@ impl Support {
         if t.0 >= 64 {
             return Col(self.count());
         }
-        let m = 1u64 << t.0;
-        Col(wide(u64::count_ones(self.0 & (m - 1))))
-    }
-
-    // Whether the two supports have the same terms.
-    pub fn same(self, other: Support) -> bool
-        ensures { result ≡ eqb self.0 other.0 }
-    {
-        self.0 == other.0
+        let below = (1u64 << t.0) - 1;
+        Col((self.0 & below).count_ones() as usize)
     }
 
     // The term at a reduced place, the other way round from `place`: the term 64, which no support has, where the place is at or beyond the count.
     pub fn term_at(self, c: Col) -> Term
         ensures { result.0 ≡ term_at self.0 c.0 }
     {
-        let at = c.0;
         let mut seen: usize = 0;
         for j in 0..64 {
             if self.contains(Term(j)) {
-                if seen == at {
+                if seen == c.0 {
                     return Term(j);
                 }
                 seen += 1;

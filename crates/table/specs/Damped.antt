@@ -1,5 +1,5 @@
 -- Cases of the third fit, whose damping is in proportion. All by computing. Assumes nothing.
-use Rattle.std.specs.Prelude.{◌≡◌, refl, List, [], ◌∷◌, Float}
+use Rattle.std.specs.Prelude.{◌≡◌, refl, [], ◌∷◌, Float}
 use Rattle.std.specs.Float.{nan}
 use Rattle.steps.specs.Num.{lit, +zero, one, two}
 use Rattle.rule.specs.Tasks.{setup_of}

@@ -1,9 +1,7 @@
 -- Demand 3 at work: F1 as a call at a limit of two rounds, and so every call of it at a larger permitted limit. Assumes nothing.
-use Rattle.std.specs.Prelude.{◌≡◌, refl, List, [], ◌∷◌, ℕ, ◌≤◌, length, Float}
-use Rattle.std.proofs.Common.{arith}
+use Rattle.std.specs.Prelude.{Ok, ◌≡◌, refl, List, [], ◌∷◌, ℕ, ◌≤◌, length, Float, Result}
 use Rattle.steps.specs.Num.{+zero}
 use Rattle.steps.specs.Space.{cleared}
-use Rattle.refusal.specs.declared.Answer.TheVariants.{Done}
 use Rattle.rule.specs.Rule.{zeros}
 use Rattle.rule.specs.Tasks.{setup_of, task_of}
 use Rattle.rule.specs.Sizes.{fit_need, limits, lengths, fit_sizes}
@@ -14,8 +12,7 @@ use Rattle.rule.proofs.Demand3.{calls_stable, calls_bounded}
 use Rattle.rule.specs.declared.Solver.TheVariants.{Normal}
 use Rattle.rule.specs.declared.Stop.TheVariants.{Settled}
 use Rattle.rule.specs.declared.Report.{Report}
-use Rattle.rule.specs.declared.Fitted.{Fitted}
-use Rattle.rule.specs.declared.Fitted.TheVariants as F
+use Rattle.refusal.specs.declared.Refusal.{Refusal}
 use Rattle.table.specs.Solvers.{three}
 use Rattle.table.specs.Fits.{fits, half, sixteenth, theta1, target1}
 
@@ -28,15 +25,15 @@ abbrev pub task1 : ℕ → Task
 task1 limit = task_of Normal 2 2 (setup_of half +zero limit)
 
 -- F1 at a limit of 2, its slices zeros before
-pub F1_call : FitCall (task1 2) theta1 target1 (zeros 2) (three ∷ +zero ∷ []) (zeros 16) (zeros 16) (F.Fit settled)
+pub F1_call : FitCall (task1 2) theta1 target1 (zeros 2) (three ∷ +zero ∷ []) (zeros 16) (zeros 16) (Ok settled)
 unfolding fits fit_sizes limits lengths fit_need cleared
-F1_call = record { sizes = Done; judged = refl; answer = refl; coeffs = refl; space = refl }
+F1_call = record { sizes = (Ok tt); judged = refl; answer = refl; coeffs = refl; space = refl }
 
 -- every larger permitted limit gives the same report and coefficients, whatever the slices held
-pub F1_stable : {m : ℕ} {ds ds' v v' : List Float} {answer : Fitted} → 2 ≤ m → m ≤ 1000 → length ds ≡ 2 → 16 ≤ length v
-    → FitCall (task1 m) theta1 target1 ds ds' v v' answer → (answer ≡ F.Fit settled) × (ds' ≡ three ∷ +zero ∷ [])
+pub F1_stable : {m : ℕ} {ds ds' v v' : List Float} {answer : Result Report Refusal} → 2 ≤ m → m ≤ 1000 → length ds ≡ 2 → 16 ≤ length v
+    → FitCall (task1 m) theta1 target1 ds ds' v v' answer → (answer ≡ Ok settled) × (ds' ≡ three ∷ +zero ∷ [])
 unfolding fit_need
-F1_stable = calls_stable (task1 2) theta1 target1 F1_call (λ e. let z : ◌≡◌ {A = ℕ} 0 1 = cc in absurd (omega arith))
+F1_stable = calls_stable (task1 2) theta1 target1 F1_call (λ e. cc)
 
 -- its threshold is above zero: the report counts the refits, and they are few
 pub F1_bounded : Few (refits_of (task1 2) theta1 target1 2) 2 2 settled

@@ -1,5 +1,5 @@
 -- Theta by rows and by columns give the same cause: a cause looks only at the entries of the matrix. Assumes nothing.
-use Rattle.std.specs.Prelude.{◌≡◌, List, length, Float}
+use Rattle.std.specs.Prelude.{◌≡◌, List, length, Float, Result}
 use Rattle.std.proofs.Math.Path.{refl, ap, ap₂}
 use Rattle.std.proofs.Common.{sym, ◌∙◌}
 use Prim.Native.Nat.{ℕ, zero, suc, ◌^◌, ◌<◌}
@@ -17,7 +17,8 @@ use Rattle.rule.proofs.SameFit.{same_rounds, same_fit, whole_agrees, solve_agree
 use Rattle.rule.specs.Sizes.{limits, lengths}
 use Rattle.rule.specs.Layouts.{theta_of}
 use Rattle.rule.proofs.Layouts.{layouts_alike}
-use Rattle.why.specs.declared.Caused.{Caused}
+use Rattle.why.specs.declared.Cause.{Cause}
+use Rattle.refusal.specs.declared.Refusal.{Refusal}
 use Rattle.why.specs.Cause.{cause, cause_of}
 use Rattle.why.specs.Sizes.{asks, why_sizes}
 use Rattle.why.specs.Calls.{WhyCall}
@@ -68,7 +69,7 @@ sizes_alike task j l m e target coeffs space =
     ap (λ (long : ℕ). why_sizes (laid l task) j long target coeffs space) (length_laid_out l task.rows task.cols e ∙ sym (length_laid_out m task.rows task.cols e))
 
 -- two calls for one matrix that differ in the layout alone answer alike, cause or refusal, and leave the same coefficients and the same workspace
-pub why_calls_alike : (task : Task) (j : ℕ) (l m : Layout) (e : Entry) (target cs w cs' w' cs'' w'' : List Float) (r s : Caused)
+pub why_calls_alike : (task : Task) (j : ℕ) (l m : Layout) (e : Entry) (target cs w cs' w' cs'' w'' : List Float) (r s : Result Cause Refusal)
     → WhyCall (laid l task) j (theta_of (laid l task) e) target cs cs' w w' r → WhyCall (laid m task) j (theta_of (laid m task) e) target cs cs'' w w'' s
     → (r ≡ s) × (cs' ≡ cs'') × (w' ≡ w'')
 why_calls_alike task j l m e target cs w cs' w' cs'' w'' r s p q =

@@ -1,5 +1,5 @@
 -- No other cause is true than the one that is given. Assumes nothing.
-use Rattle.std.specs.Prelude.{◌≡◌, ◌↔◌, ℕ, suc, length, Float}
+use Rattle.std.specs.Prelude.{None, Some, ◌≡◌, ◌↔◌, ℕ, suc, length, Float}
 use Rattle.std.proofs.Math.Path.{refl, sym, ap}
 use Rattle.std.proofs.Common.{◌∙◌, subst}
 use Rattle.std.proofs.Math.Bool.{true}
@@ -8,14 +8,13 @@ use Rattle.std.specs.Float.Ieee.{is_nan}
 use Rattle.steps.specs.Num.{at}
 use Rattle.support.specs.Word.{has}
 use Rattle.rule.specs.Rule.{Problem, State, going, done, support, rounds, reported, finish, fit, past, refitted, coeffs_of}
-use Rattle.rule.specs.Dropped.{drops, or_else, dropped}
+use Rattle.rule.specs.Dropped.{before, drops, or_else, dropped}
 use Rattle.rule.proofs.Course.{of_report}
 use Rattle.rule.proofs.Stable.{refits_counted}
 use Rattle.rule.specs.Endings.{Zeroed as LeavesZeros}
 use Rattle.rule.proofs.Endings.{unzeroed, ends_with_zeros}
 use Rattle.rule.specs.declared.Stop.{Stop}
 use Rattle.rule.specs.declared.Stop.TheVariants as S
-use Rattle.rule.specs.declared.Drop.TheVariants.{Never, Before}
 use Rattle.why.specs.declared.Cause.{Cause}
 use Rattle.why.specs.declared.Cause.TheVariants.{NoData, FirstRefused, Kept, Dropped, Cleared, Zeroed, LeftNan}
 use Rattle.why.specs.Cause.{by_value, undropped, caused, cause}
@@ -40,7 +39,7 @@ module _ {P : Problem} {j : ℕ} (sharp : Sharp P j) (limit : ℕ) where
       go (done u cs ws) e = ap (λ v. done v cs ws) e
 
   -- the cause of a term that no look dropped
-  undropped_cause : {t : Stop} → dropped P j limit ≡ Never → (fit P limit).stop ≡ t → cause P limit j ≡ undropped (P.keeps j) t (fit P limit).refits last_value
+  undropped_cause : {t : Stop} → dropped P j limit ≡ None → (fit P limit).stop ≡ t → cause P limit j ≡ undropped (P.keeps j) t (fit P limit).refits last_value
   unfolding cause caused
   undropped_cause {t} n e = rw (n, e)
 
@@ -70,11 +69,11 @@ module _ {P : Problem} {j : ℕ} (sharp : Sharp P j) (limit : ℕ) where
           ∙ not_in_zeros sharp)
 
   -- a look that dropped it is the first that did
-  dropped_first : {r : ℕ} {c : Float} → DroppedAt P limit j r c → dropped P j limit ≡ Before r c
+  dropped_first : {r : ℕ} {c : Float} → DroppedAt P limit j r c → dropped P j limit ≡ Some (before r c)
   unfolding dropped or_else drops
-  dropped_first {r} {c} d = le_ind (λ (m : ℕ). dropped P j m ≡ Before r c) first (λ m l i. rw i) limit d.in_limit
+  dropped_first {r} {c} d = le_ind (λ (m : ℕ). dropped P j m ≡ Some (before r c)) first (λ m l i. rw i) limit d.in_limit
     where
-      first : dropped P j (suc (length d.before)) ≡ Before r c
+      first : dropped P j (suc (length d.before)) ≡ Some (before r c)
       first = rw (stayed sharp (length d.before) d.looks d.in_each_before, d.looks, d.unfound, d.number, d.saw)
 
   -- so that is the cause

@@ -1,14 +1,12 @@
 -- What a call of `why` answers, whose contract is `WhyCall`, is the true cause by the rule, and no other is true. Assumes nothing.
-use Rattle.std.specs.Prelude.{◌≡◌, refl, List, ℕ, ◌<◌, T, Float}
-use Rattle.std.proofs.Common.{sym, ◌∙◌, subst, arith}
+use Rattle.std.specs.Prelude.{Err, Ok, ◌≡◌, refl, List, ℕ, ◌<◌, T, Float}
+use Rattle.std.proofs.Common.{sym, ◌∙◌, subst}
 use Rattle.std.specs.Float.Ieee.{lt}
 use Rattle.steps.specs.Num.{+zero, at}
-use Rattle.refusal.specs.declared.Answer.{Answer}
-use Rattle.refusal.specs.declared.Answer.TheVariants.{Done, Refused}
+use Rattle.refusal.specs.Answers.{Answer}
 use Rattle.rule.specs.Fits.{matrix_of, problem_of}
 use Rattle.rule.specs.declared.Task.{Task}
 use Rattle.why.specs.declared.Cause.{Cause}
-use Rattle.why.specs.declared.Caused.TheVariants as C
 use Rattle.why.specs.Cause.{cause_of}
 use Rattle.why.specs.Truth.{Truly}
 use Rattle.why.specs.Sizes.{why_asked}
@@ -16,13 +14,13 @@ use Rattle.why.specs.Calls.{explained, WhyCall}
 use Rattle.why.proofs.Promises.{why_true, why_only}
 
 -- a cause is answered only where nothing is refused
-because_done : (a : Answer) (c d : Cause) → C.Because c ≡ explained a d → (a ≡ Done) × (c ≡ d)
-because_done Done c d e = (refl, cc)
-because_done (Refused w) c d e = let z : ◌≡◌ {A = ℕ} 0 1 = cc in absurd (omega arith)
+because_done : (a : Answer) (c d : Cause) → Ok c ≡ explained a d → (a ≡ Ok tt) × (c ≡ d)
+because_done (Ok done) c d e = (refl, cc)
+because_done (Err w) c d e = absurd cc
 
 -- a call that answered the cause c for the term j
-module _ {task : Task} {j : ℕ} {theta target cs cs' w w' : List Float} {c : Cause} (call : WhyCall task j theta target cs cs' w w' (C.Because c)) where
-  told : (call.sizes ≡ Done) × (c ≡ cause_of task theta target j)
+module _ {task : Task} {j : ℕ} {theta target cs cs' w w' : List Float} {c : Cause} (call : WhyCall task j theta target cs cs' w w' (Ok c)) where
+  told : (call.sizes ≡ Ok tt) × (c ≡ cause_of task theta target j)
   told = because_done call.sizes c _ call.answer
 
   asked : T (lt +zero task.setup.threshold) × (j < task.cols)

@@ -1,5 +1,5 @@
 -- The cause that is given is the true one. Assumes nothing.
-use Rattle.std.specs.Prelude.{◌≡◌, ◌≢◌, Bool, true, false, ℕ, eqb, length, Float}
+use Rattle.std.specs.Prelude.{None, Some, ◌≡◌, ◌≢◌, Bool, true, false, ℕ, eqb, length, Float, Option}
 use Rattle.std.proofs.Math.Path.{refl, ap}
 use Rattle.std.proofs.Common.{sym, ◌∙◌, subst, eqb-true}
 use mathlib.Core.List.{List, [], ◌∷◌}
@@ -14,8 +14,7 @@ use Rattle.rule.specs.Endings.{Zeroed as LeavesZeros}
 use Rattle.rule.proofs.Endings.{unzeroed}
 use Rattle.rule.specs.declared.Stop.{Stop}
 use Rattle.rule.specs.declared.Stop.TheVariants as S
-use Rattle.rule.specs.declared.Drop.{Drop}
-use Rattle.rule.specs.declared.Drop.TheVariants.{Never, Before}
+use Rattle.rule.specs.declared.Look.{Look}
 use Rattle.why.specs.Cause.{by_value, undropped, caused, cause}
 use Rattle.why.specs.Truth.{InEach, LastAt, Truly}
 use Rattle.why.specs.Sharp.{Sharp, clash, nan_is, finds, kept_found}
@@ -66,10 +65,10 @@ module _ {P : Problem} {j : ℕ} (sharp : Sharp P j) (limit : ℕ) where
       stop_is : {s : State} → rounds P limit ≡ s → (fit P limit).stop ≡ (finish P s).stop
       stop_is e = ap (λ s. (finish P s).stop) e
 
-      go : (d : Drop) (s : State) → rounds P limit ≡ s → Seen P j limit d s
+      go : (d : Option Look) (s : State) → rounds P limit ≡ s → Seen P j limit d s
           → Truly P limit j (caused (P.keeps j) d (finish P s).stop (finish P s).refits (at (coeffs_of s) j))
-      go (Before k c) s e i = i.0
-      go Never (going cs ws) e i =
+      go (Some d) s e i = i.0
+      go None (going cs ws) e i =
           subst (Truly P limit j) (sym (by_stop _ (last_stop P cs ws) _ _ (unzeroed (length ws) (latest ws) (support P cs))))
           (by_last_value cs (ap coeffs_of e) (λ k c v. record {
             coeffs = cs;
@@ -78,10 +77,10 @@ module _ {P : Problem} {j : ℕ} (sharp : Sharp P j) (limit : ℕ) where
             in_each = subst (λ s. InEach j (past s)) (sym e) i;
             value = v;
           }))
-      go Never (done S.NoData cs ws) e i = stop_is e
-      go Never (done (S.FirstRefused t) cs ws) e i = record { term = t; stop = stop_is e }
-      go Never (done S.Empty cs ws) e i = absurd i
-      go Never (done (S.RefitRefused t) cs ws) e i =
+      go None (done S.NoData cs ws) e i = stop_is e
+      go None (done (S.FirstRefused t) cs ws) e i = record { term = t; stop = stop_is e }
+      go None (done S.Empty cs ws) e i = absurd i
+      go None (done (S.RefitRefused t) cs ws) e i =
           record { term = t; stop = stop_is e; in_each = subst (λ s. InEach j (past s)) (sym e) i; number = ap (λ s. length (past s)) (sym e) }
-      go Never (done S.Settled cs ws) e i = by_last_value cs (ap coeffs_of e) (λ k. absurd (clash i.1 (finds sharp cs ∙ k)))
-      go Never (done S.OutOfRounds cs ws) e i = absurd i
+      go None (done S.Settled cs ws) e i = by_last_value cs (ap coeffs_of e) (λ k. absurd (clash i.1 (finds sharp cs ∙ k)))
+      go None (done S.OutOfRounds cs ws) e i = absurd i

@@ -1,5 +1,5 @@
 -- Why a term ended as it did, by the rule. Assumes nothing.
-use Rattle.std.specs.Prelude.{ℕ, Bool, cond, List, Float}
+use Rattle.std.specs.Prelude.{ℕ, Bool, cond, List, Float, Option, Some, None}
 use Rattle.std.specs.Float.Ieee.{is_nan}
 use Rattle.steps.specs.Num.{at}
 use Rattle.rule.specs.Rule.{Problem, rounds, coeffs_of, fit}
@@ -8,8 +8,7 @@ use Rattle.rule.specs.Fits.{problem_of}
 use Rattle.rule.specs.declared.Task.{Task}
 use Rattle.rule.specs.declared.Stop.{Stop}
 use Rattle.rule.specs.declared.Stop.TheVariants as S
-use Rattle.rule.specs.declared.Drop.{Drop}
-use Rattle.rule.specs.declared.Drop.TheVariants.{Never, Before}
+use Rattle.rule.specs.declared.Look.{Look}
 use Rattle.why.specs.declared.Cause.{Cause}
 use Rattle.why.specs.declared.Cause.TheVariants.{NoData, FirstRefused, Kept, Dropped, Cleared, Zeroed, LeftNan}
 
@@ -27,9 +26,9 @@ undropped keeps S.Settled refits c = by_value keeps c
 undropped keeps S.OutOfRounds refits c = by_value keeps c
 
 -- a term that a look dropped was dropped there, however the fit went on
-unfoldable pub caused : (Float → Bool) → Drop → Stop → ℕ → Float → Cause
-caused keeps Never stop refits c = undropped keeps stop refits c
-caused keeps (Before r x) stop refits c = Dropped r x
+unfoldable pub caused : (Float → Bool) → Option Look → Stop → ℕ → Float → Cause
+caused keeps None stop refits c = undropped keeps stop refits c
+caused keeps (Some d) stop refits c = Dropped d.refit d.value
 
 -- why the term j ended as it did within a limit of rounds
 unfoldable pub cause : Problem → ℕ → ℕ → Cause

@@ -1,11 +1,10 @@
 -- The causes by their codes and values, and an answer by its number. Assumes nothing.
-use Rattle.std.specs.Prelude.{ℕ, Float}
+use Rattle.std.specs.Prelude.{ℕ, Float, Result}
 use Rattle.steps.specs.Num.{+zero}
-use Rattle.refusal.specs.Answers.{number}
+use Rattle.refusal.specs.Answers.{answer_number}
 use Rattle.why.specs.declared.Cause.{Cause}
 use Rattle.why.specs.declared.Cause.TheVariants.{NoData, FirstRefused, Kept, Dropped, Cleared, Zeroed, LeftNan}
-use Rattle.why.specs.declared.Caused.{Caused}
-use Rattle.why.specs.declared.Caused.TheVariants.{Because, Refused}
+use Rattle.refusal.specs.declared.Refusal.{Refusal}
 
 -- a two-digit cause in the order of document 02, 00 to 06
 abbrev pub cause_code : Cause → ℕ
@@ -38,6 +37,5 @@ cause_value (Zeroed c) = c
 cause_value LeftNan = +zero
 
 -- an answer by number: 0 for a cause, else the refusal's
-abbrev pub caused_number : Caused → ℕ
-caused_number (Because c) = 0
-caused_number (Refused w) = number w
+abbrev pub caused_number : Result Cause Refusal → ℕ
+caused_number r = answer_number r

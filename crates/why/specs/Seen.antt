@@ -1,13 +1,12 @@
 -- What stands after each round of a term that no look has dropped, and of one that a look dropped. Assumes nothing.
-use Rattle.std.specs.Prelude.{◌≡◌, refl, true, false, List, [], ◌∷◌, ◌++◌, ℕ, suc, length, Float}
+use Rattle.std.specs.Prelude.{None, Some, ◌≡◌, refl, true, false, List, [], ◌∷◌, ◌++◌, ℕ, suc, length, Float, Option}
 use Rattle.std.proofs.Common.{sym, ap, ◌∙◌, subst, append_assoc, arith}
 use Rattle.steps.specs.Num.{at}
 use Rattle.support.specs.Word.{has}
 use Rattle.rule.specs.Rule.{Problem, State, going, done, support, rounds, refitted, coeffs_of}
 use Rattle.rule.proofs.Stable.{goes_counted}
 use Rattle.rule.specs.declared.Stop.TheVariants.{NoData, FirstRefused, Empty, RefitRefused, Settled, OutOfRounds}
-use Rattle.rule.specs.declared.Drop.{Drop}
-use Rattle.rule.specs.declared.Drop.TheVariants.{Never, Before}
+use Rattle.rule.specs.declared.Look.{Look}
 use Rattle.why.specs.Truth.{InEach, InNone, DroppedAt}
 
 -- in none of two lists of refits is in none of both
@@ -27,9 +26,9 @@ module _ (P : Problem) (j : ℕ) where
   Stayed (done OutOfRounds cs ws) = ⊥
 
   -- after r rounds, by the look that dropped it: a dropped term does not return
-  abbrev pub Seen : ℕ → Drop → State → Type 0
-  Seen r Never s = Stayed s
-  Seen r (Before k c) s = DroppedAt P r j k c × (Stayed s → ⊥) × (has (support P (coeffs_of s)) j ≡ false)
+  abbrev pub Seen : ℕ → Option Look → State → Type 0
+  Seen r None s = Stayed s
+  Seen r (Some d) s = DroppedAt P r j d.refit d.value × (Stayed s → ⊥) × (has (support P (coeffs_of s)) j ≡ false)
 
   -- a look of this round drops it
   pub drops_now : (r : ℕ) {cs : List Float} {ws : List ℕ} → rounds P r ≡ going cs ws → InEach j ws → has (support P cs) j ≡ false

@@ -4,18 +4,17 @@
 pub mod inner;
 
 ghost use Rattle.std.specs.Prelude.{◌≡◌};
-ghost use Rattle.rule.specs.Tasks.{task_of, by_columns};
-ghost use Rattle.why.specs.Codes.{cause_code, cause_refit, cause_value, caused_number};
+ghost use Rattle.why.specs.Codes.{cause_code, cause_refit, cause_value};
 ghost use Rattle.why.specs.Calls.{WhyCall};
 
-use crate::inner::call::why_task;
-use places::Layout;
-use refusal::{Refusal, number};
-use rule::{Setup, Solver, Task};
+use crate::inner::{cause_of, why_sizes};
+use refusal::Refusal;
+use rule::{Given, Task};
+use strlsq::inner::fit_ready;
 use support::Term;
 
 // The causes, in code order 00 to 06.
-#[derive(Clone, Copy)]
+#[derive(Clone, Copy, Debug, PartialEq)]
 pub enum Cause {
     NoData,
     FirstRefused,
@@ -27,13 +26,6 @@ pub enum Cause {
     // by the last pass, with this value
     Zeroed(f64),
     LeftNan,
-}
-
-// What the call answers.
-#[derive(Clone, Copy)]
-pub enum Caused {
-    Because(Cause),
-    Refused(Refusal),
 }
 
 // The code of a cause in document 02.
@@ -56,13 +48,8 @@ pub fn cause_refit(c: Cause) -> usize
     ensures { result ≡ cause_refit c }
 {
     match c {
-        Cause::NoData => 0,
-        Cause::FirstRefused => 0,
-        Cause::Kept => 0,
-        Cause::Dropped(r, _) => r,
-        Cause::Cleared(r) => r,
-        Cause::Zeroed(_) => 0,
-        Cause::LeftNan => 0,
+        Cause::Dropped(r, _) | Cause::Cleared(r) => r,
+        _ => 0,
     }
 }
 
@@ -71,72 +58,36 @@ pub fn cause_value(c: Cause) -> f64
     ensures { result ≡ cause_value c }
 {
     match c {
-        Cause::NoData => 0.0,
-        Cause::FirstRefused => 0.0,
-        Cause::Kept => 0.0,
-        Cause::Dropped(_, x) => x,
-        Cause::Cleared(_) => 0.0,
-        Cause::Zeroed(x) => x,
-        Cause::LeftNan => 0.0,
+        Cause::Dropped(_, x) | Cause::Zeroed(x) => x,
+        _ => 0.0,
     }
 }
 
-// An answer by number: 0 for a cause, else the refusal's.
-pub fn caused_number(answer: Caused) -> u64
-    ensures { result ≡ caused_number answer }
-{
-    match answer {
-        Caused::Because(_) => 0,
-        Caused::Refused(w) => number(w),
-    }
-}
-
-// Why a term of the fit was kept or not. Coefficients and workspace are left as the fit leaves them.
+// Why a term of the task's fit was kept or not, or the first refusal that applies. Coefficients and workspace are left as the fit leaves them.
 pub fn why(
-    solver: Solver,
+    task: Task,
     theta: &[f64],
-    n_rows: usize,
-    n_cols: usize,
     target: &[f64],
-    setup: Setup,
     term_idx: Term,
     coeffs: &mut [f64],
     workspace: &mut [f64],
-) -> Caused
-    ensures { WhyCall (task_of solver n_rows n_cols setup) term_idx.0 theta.now target.now
+) -> Result<Cause, Refusal>
+    ensures { WhyCall task term_idx.0 theta.now target.now
         coeffs.old coeffs.new workspace.old workspace.new result }
 {
-    let task = Task {
-        solver,
-        layout: Layout::ByRows,
-        rows: n_rows,
-        cols: n_cols,
-        setup,
+    why_sizes(
+        task,
+        term_idx,
+        theta.len(),
+        target.len(),
+        coeffs.len(),
+        workspace.len(),
+    )?;
+    let given = Given {
+        task,
+        theta,
+        target,
     };
-    why_task(task, theta, target, term_idx, coeffs, workspace)
-}
-
-// The same of theta by columns.
-pub fn why_by_columns(
-    solver: Solver,
-    theta: &[f64],
-    n_rows: usize,
-    n_cols: usize,
-    target: &[f64],
-    setup: Setup,
-    term_idx: Term,
-    coeffs: &mut [f64],
-    workspace: &mut [f64],
-) -> Caused
-    ensures { WhyCall (by_columns (task_of solver n_rows n_cols setup)) term_idx.0 theta.now target.now
-        coeffs.old coeffs.new workspace.old workspace.new result }
-{
-    let task = Task {
-        solver,
-        layout: Layout::ByColumns,
-        rows: n_rows,
-        cols: n_cols,
-        setup,
-    };
-    why_task(task, theta, target, term_idx, coeffs, workspace)
+    let watched = fit_ready(given, term_idx, coeffs, workspace);
+    Ok(cause_of(watched, task.setup))
 }

@@ -5,7 +5,7 @@ use Prim.Native.Nat.{ℕ, ◌+◌, ◌*◌, ◌≤◌, ◌<◌}
 use native.Mathlib.Numerals.{add-one}
 use native.Mathlib.Omega.{arith}
 use lib.ListN.{length, take, get_or, length-append}
-use lib.Seq.{take-suc, take_all}
+use lib.Seq.{take-suc}
 use lib.Ieee.{Float, nan}
 use Rattle.hexdigits.specs.Hex.{bits, digits, line}
 use Rattle.hexdigits.specs.Put.{Written, put_none, written_then}
@@ -67,6 +67,3 @@ module _ (xs : List Float) (a : ℕ) (was : List ℕ) where
         place = omega (arith, f.place, after_line 16 w g);
         lines = rw same (written_then h f.lines g);
       }
-
-  pub lines_end : {j next : ℕ} {out : List ℕ} → length xs ≤ j → Lines j out next → Written a (coefficient_lines xs) was out next
-  lines_end {j} h f = rw (take_all j xs h) at f.lines

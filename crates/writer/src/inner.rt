@@ -3,9 +3,9 @@ ghost use Rattle.std.specs.Prelude.{◌≡◌, ◌+◌, ◌*◌, ◌≤◌, ◌+
 ghost use Rattle.hexdigits.specs.Put.{Written};
 ghost use Rattle.writer.specs.Answer.{report_bytes, coefficient_bytes, refusal_line, report_line, coefficient_lines};
 
-use hexdigits::inner::wide;
+use hexdigits::inner::{bits, write_hex, write_line};
 use refusal::Refusal;
-use rule::Report;
+use rule::{Report, stop_code, stop_term};
 
 // The bytes of a report's line, and of a coefficient's.
 pub const REPORT_BYTES: usize = 2 + 4 + 16 + 2 + 16 + 1;
@@ -17,8 +17,8 @@ pub fn write_refusal(w: Refusal, out: &mut [u8]) -> usize
     requires { 5 ≤ length out.old }
     ensures { Written 0 (refusal_line w) out.old out.new result }
 {
-    let a = hexdigits::inner::write_hex(0xff, 2, out, 0);
-    hexdigits::inner::write_line(refusal::number(w), 2, out, a)
+    let a = write_hex(0xff, 2, out, 0);
+    write_line(refusal::number(w), 2, out, a)
 }
 
 // Stop, refits, kept word, refused term and squared error.
@@ -26,13 +26,11 @@ fn write_status(report: Report, out: &mut [u8]) -> usize
     requires { report_bytes ≤ length out.old }
     ensures { Written 0 (report_line report) out.old out.new result }
 {
-    let stop = report.stop;
-    let kept = report.kept;
-    let a = hexdigits::inner::write_hex(rule::stop_code(stop), 2, out, 0);
-    let b = hexdigits::inner::write_hex(wide(report.refits), 4, out, a);
-    let c = hexdigits::inner::write_hex(kept.0, 16, out, b);
-    let d = hexdigits::inner::write_hex(wide(rule::stop_term(stop)), 2, out, c);
-    hexdigits::inner::write_line(hexdigits::inner::bits(report.error), 16, out, d)
+    let a = write_hex(stop_code(report.stop), 2, out, 0);
+    let b = write_hex(report.refits as u64, 4, out, a);
+    let c = write_hex(report.kept.0, 16, out, b);
+    let d = write_hex(stop_term(report.stop) as u64, 2, out, c);
+    write_line(bits(report.error), 16, out, d)
 }
 
 // A line per coefficient, from `at` on.
@@ -41,8 +39,8 @@ fn write_coefficients(coeffs: &[f64], out: &mut [u8], at: usize) -> usize
     ensures { Written at (coefficient_lines coeffs.now) out.old out.new result }
 {
     let mut next = at;
-    for j in 0..coeffs.len() {
-        next = hexdigits::inner::write_line(hexdigits::inner::bits(coeffs[j]), 16, out, next);
+    for x in coeffs {
+        next = write_line(bits(*x), 16, out, next);
     }
     next
 }

@@ -1,12 +1,8 @@
--- `check` looks at what refuses a task before its rows, and then at the rows.
-use mathlib.Core.Path.{sym, ◌∙◌}
-use Rattle.causes.specs.Exchange.{why_checked}
-use Rattle.causes.specs.Cases.{before_limits}
+-- `check`: what refuses a task before the rows are looked at. Assumes nothing.
+use Rattle.std.proofs.Common.{rules}
+use Rattle.causes.specs.Exchange.{why_before, why_checked}
 use Rattle.causes.proofs.check.Goals as goal
-
-pub then_rows-requires : goal.then_rows-requires
-then_rows-requires c = λ e. before_limits _ (sym c.why_before-asked.ensures ∙ e)
 
 pub returns : goal.returns
 unfolding why_checked
-returns c = rw c.why_before-asked.ensures at c.then_rows.ensures
+returns c = c.checked.ensures why_before (λ task r h. search rules)

@@ -1,23 +1,23 @@
--- `respond_why` answers by its definition's cases.
-use Rattle.std.proofs.Common.{sym, ◌∙◌, arith}
-use Rattle.exchange.specs.Exchange.{answer_lines}
-use Rattle.exchange.specs.Laws.{exchanged}
-use Rattle.causes.specs.Cases.{causes_wrong, causes_good, why_was_accepted}
+-- `respond_why` answers by what its check does. Assumes nothing.
+use Rattle.std.proofs.Common.{◌≡◌, List, ℕ, sym, arith}
+use Rattle.std.specs.Prelude.{Ok}
+use Rattle.exchange.specs.Laws.{exchanged, passed_ok}
+use Rattle.exchange.specs.Exchange.{Accepted, passed}
+use Rattle.reader.specs.Header.{head_of}
+use Rattle.rule.specs.declared.Task.{Task}
+use Rattle.causes.specs.Exchange.{why_checked}
+use Rattle.causes.specs.Cases.{causes_passed, causes_refused, why_was_accepted}
 use Rattle.causes.proofs.respond_why.Goals as goal
 
-pub returns-in_default : goal.returns-in_default
-returns-in_default c =
-    exchanged (causes_wrong _ (sym c.read_header.ensures ∙ c.in_default.is)) c.write_refusal.ensures
+-- an input that the check passes is accepted
+passed_accepted : (s : List ℕ) (task : Task) → passed (why_checked s) (head_of s) ≡ Ok task → Accepted s task
+passed_accepted s task e = why_was_accepted s task (passed_ok (why_checked s) (head_of s) task e)
 
 pub causes_rows-requires : goal.causes_rows-requires
-causes_rows-requires c = (why_was_accepted _ _ (sym c.check.ensures ∙ c.in-Done.is), omega arith)
+causes_rows-requires c = (passed_accepted _ _ (sym c.in-Ok.ensures), omega arith)
 
-pub returns-in-Done : goal.returns-in-Done
-unfolding answer_lines
-returns-in-Done c =
-    exchanged (causes_good _ _ _ (sym c.read_header.ensures ∙ c.in-Good.is) (sym c.check.ensures ∙ c.in-Done.is)) c.causes_rows.ensures
+pub returns-in-Ok : goal.returns-in-Ok
+returns-in-Ok c = exchanged (causes_passed _ _ (sym c.in-Ok.ensures)) c.causes_rows.ensures
 
-pub returns-in-Refused : goal.returns-in-Refused
-unfolding answer_lines
-returns-in-Refused c =
-    exchanged (causes_good _ _ _ (sym c.read_header.ensures ∙ c.in-Good.is) (sym c.check.ensures ∙ c.in-Refused.is)) c.write_refusal-in-Refused.ensures
+pub returns-in-Err : goal.returns-in-Err
+returns-in-Err c = exchanged (causes_refused _ _ (sym c.in-Err.ensures)) c.write_refusal.ensures

@@ -3,5 +3,4 @@ use Rattle.decomp.specs.Sizes.{qr_fits}
 use Rattle.decomp.proofs.qr.Goals as goal
 
 pub qr_ready-requires : goal.qr_ready-requires
-qr_ready-requires c =
-    qr_fits c.qr_sizes-sizes.ensures c.in-Done.is
+qr_ready-requires c = qr_fits c.qr_sizes.ensures c.in_ok-qr_sizes.was

@@ -1,23 +1,14 @@
--- `respond` answers by its definition's cases.
-use Rattle.std.proofs.Common.{sym, ◌∙◌, arith}
-use Rattle.exchange.specs.Exchange.{answer_lines}
+-- `respond` answers by what its check does. Assumes nothing.
+use Rattle.std.proofs.Common.{sym, arith}
 use Rattle.exchange.specs.Laws.{exchanged}
-use Rattle.frames.specs.Cases.{answer_wrong, answer_good, was_accepted}
+use Rattle.frames.specs.Cases.{answer_passed, answer_refused, passed_accepted}
 use Rattle.frames.proofs.respond.Goals as goal
 
-pub returns-in_default : goal.returns-in_default
-returns-in_default c =
-    exchanged (answer_wrong _ (sym c.read_header.ensures ∙ c.in_default.is)) c.write_refusal.ensures
-
 pub fit_rows-requires : goal.fit_rows-requires
-fit_rows-requires c = (was_accepted _ _ (sym c.check.ensures ∙ c.in-Done.is), omega arith)
+fit_rows-requires c = (passed_accepted _ _ (sym c.in-Ok.ensures), omega arith)
 
-pub returns-in-Done : goal.returns-in-Done
-unfolding answer_lines
-returns-in-Done c =
-    exchanged (answer_good _ _ _ (sym c.read_header.ensures ∙ c.in-Good.is) (sym c.check.ensures ∙ c.in-Done.is)) c.fit_rows.ensures
+pub returns-in-Ok : goal.returns-in-Ok
+returns-in-Ok c = exchanged (answer_passed _ _ (sym c.in-Ok.ensures)) c.fit_rows.ensures
 
-pub returns-in-Refused : goal.returns-in-Refused
-unfolding answer_lines
-returns-in-Refused c =
-    exchanged (answer_good _ _ _ (sym c.read_header.ensures ∙ c.in-Good.is) (sym c.check.ensures ∙ c.in-Refused.is)) c.write_refusal-in-Refused.ensures
+pub returns-in-Err : goal.returns-in-Err
+returns-in-Err c = exchanged (answer_refused _ _ (sym c.in-Err.ensures)) c.write_refusal.ensures

@@ -3,39 +3,40 @@ ghost use Rattle.std.specs.Prelude.{◌≡◌, ◌+◌, ◌≤◌, ◌<◌, leng
 ghost use Rattle.reader.specs.Frames.{frame_at, frame_formed, frames_formed, FewFrames};
 
 use crate::inner::header::FRAME;
+use hexdigits::inner::all_hex;
 
-// Where frame k begins.
-pub fn frame_at(width: usize, k: usize) -> usize
-    requires { FewFrames k width }
-    ensures { result ≡ frame_at width k }
-{
-    FRAME + k * (width + 1)
+// How many there are, and the digits of each.
+#[derive(Clone, Copy)]
+pub struct Frames {
+    pub count: usize,
+    pub width: usize,
+    pub ghost few: { FewFrames count width },
 }
 
-// Whether frame k is its digits and a newline.
-fn frame_formed(s: &[u8], width: usize, k: usize) -> bool
-    requires { FewFrames k width × (frame_at width k + width < length s.now) }
-    ensures { result ≡ frame_formed s.now width k }
-{
-    let at = frame_at(width, k);
-    if !hexdigits::inner::all_hex(s, at, width) {
-        return false;
+impl Frames {
+    // Where frame k begins.
+    #[tactic(auto, unfolding(crate::specs::Frames::frame_at))]
+    pub fn at(self, k: usize) -> usize
+        requires { k ≤ self.count }
+        ensures { result ≡ frame_at self.width k }
+    {
+        FRAME + k * (self.width + 1)
     }
-    s[at + width] == 10
-}
 
-// Whether all frames are well formed, and nothing stands after the last.
-pub fn formed(s: &[u8], count: usize, width: usize) -> bool
-    requires { FewFrames count width }
-    ensures { result ≡ frames_formed s.now count width }
-{
-    if s.len() != frame_at(width, count) {
-        return false;
+    // Whether frame k is its digits and a newline.
+    #[tactic(auto, unfolding(crate::specs::Frames::frame_formed))]
+    fn frame_formed(self, s: &[u8], k: usize) -> bool
+        requires { (k ≤ self.count) × (frame_at self.width k + self.width < length s.now) }
+        ensures { result ≡ frame_formed s.now self.width k }
+    {
+        let at = self.at(k);
+        all_hex(s, at, self.width) && s[at + self.width] == b'\n'
     }
-    for k in 0..count {
-        if !frame_formed(s, width, k) {
-            return false;
-        }
+
+    // Whether all frames are well formed, and nothing stands after the last.
+    pub fn formed(self, s: &[u8]) -> bool
+        ensures { result ≡ frames_formed s.now self.count self.width }
+    {
+        s.len() == self.at(self.count) && (0..self.count).all(|k| self.frame_formed(s, k))
     }
-    true
 }

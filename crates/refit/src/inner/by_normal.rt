@@ -8,24 +8,23 @@ ghost use Rattle.refit.specs.Parts.{gave};
 
 use block::inner::solve_block;
 use refusal::Solved;
-use rule::Task;
 use slices::inner::few;
 use sums::inner::Damping;
 use support::Support;
 
 // The right-hand side and the values in b, the block behind the kept sums of the workspace, which stay as they are.
 pub fn solve_normal(
-    task: Task,
+    n_cols: usize,
     damping: Damping,
     support: Support,
     b: &mut [f64],
     ws: &mut [f64],
 ) -> Solved
-    requires { (task.cols ≤ 64) × (support.0 < 2 ^ task.cols) × (length b.old ≡ ones support.0) × (kept_size task.cols + length b.old * length b.old ≤ length ws.old) }
-    ensures { (gave result b.new ≡ from_kept (damps damping) task.cols ws.old support.0)
-        × (take (kept_size task.cols) ws.new ≡ take (kept_size task.cols) ws.old) }
+    requires { (n_cols ≤ 64) × (support.0 < 2 ^ n_cols) × (length b.old ≡ ones support.0) × (kept_size n_cols + length b.old * length b.old ≤ length ws.old) }
+    ensures { (gave result b.new ≡ from_kept (damps damping) n_cols ws.old support.0)
+        × (take (kept_size n_cols) ws.new ≡ take (kept_size n_cols) ws.old) }
 {
-    let n_cols = few(task.cols);
+    let n_cols = few(n_cols);
     let n_active = b.len();
     let e = n_cols * n_cols + n_cols + n_active * n_active;
     solve_block(&mut ws[0..e], n_cols, support, damping, b)

@@ -1,15 +1,14 @@
 // The rows of theta are read once, up to 32 of them a page, and every pair sum takes the page before the next is read. A sum still receives its rows in rising
 // order, so its bits are those of a walk for each pair.
-ghost use Rattle.std.specs.Prelude.{◌+◌, ◌*◌, ◌≤◌, ◌<◌, length};
+ghost use Rattle.std.specs.Prelude.{◌≡◌, ◌+◌, ◌-◌, ◌*◌, ◌≤◌, length, min};
 ghost use Rattle.steps.specs.Num.{cell as cell_of};
-ghost use Rattle.places.specs.Stored.{stored};
-ghost use Rattle.sums.specs.Inner.{Matrix};
+ghost use Rattle.places.specs.Theta.{entries};
 ghost use Rattle.sums.specs.Pages.{Holds, UpperSums};
 
 use crate::inner::columns::fill_columns;
 use pairs::inner::add_page;
-use places::Layout;
-use places::inner::page_rows;
+use pairs::page::Page;
+use places::{Layout, Theta};
 
 // A page takes the h rows from row i on, as they stand, of theta by rows.
 fn fill_rows(theta: &[f64], n_cols: usize, i: usize, h: usize, page: &mut [f64])
@@ -17,70 +16,57 @@ fn fill_rows(theta: &[f64], n_cols: usize, i: usize, h: usize, page: &mut [f64])
     ensures { Holds (cell_of n_cols theta.now) n_cols i h page.new }
 {
     let from = i * n_cols;
-    for k in 0..h * n_cols {
-        page[k] = theta[from + k];
-    }
+    let long = h * n_cols;
+    page[..long].copy_from_slice(&theta[from..from + long]);
 }
 
 // By either: nothing else of a fit by sums knows how theta is stored.
-pub fn fill_page(
-    layout: Layout,
-    theta: &[f64],
-    n_rows: usize,
-    n_cols: usize,
-    i: usize,
-    h: usize,
-    page: &mut [f64],
-)
-    requires { Matrix n_rows n_cols (length theta.now) × (i + h ≤ n_rows) × (h * n_cols ≤ length page.old) }
-    ensures { Holds (stored layout n_rows n_cols theta.now) n_cols i h page.new }
+pub fn fill_page(theta: Theta<'_>, i: usize, h: usize, page: &mut [f64])
+    requires { (i + h ≤ theta.rows) × (h * theta.cols ≤ length page.old) }
+    ensures { Holds (entries theta.entry) theta.entry.cols i h page.new }
 {
-    match layout {
-        Layout::ByRows => fill_rows(theta, n_cols, i, h, page),
-        Layout::ByColumns => fill_columns(theta, n_rows, n_cols, i, h, page),
+    match theta.layout {
+        Layout::ByRows => fill_rows(theta.numbers, theta.cols, i, h, page),
+        Layout::ByColumns => fill_columns(theta, i, h, page),
     }
 }
 
-// The sums take all rows, page by page.
-fn add_pages(theta: &[f64], n_rows: usize, n_cols: usize, page: &mut [f64], out: &mut [f64])
-    requires { Matrix n_rows n_cols (length theta.now) × (32 * n_cols ≤ length page.old) × UpperSums (cell_of n_cols theta.now) n_cols 0 out.old }
-    ensures { UpperSums (cell_of n_cols theta.now) n_cols n_rows out.new }
+// The page that begins with row i, in the room that is lent for it: 32 rows, or those that are left.
+pub fn page_at<'a>(theta: Theta<'_>, i: usize, room: &'a mut [f64]) -> Page<'a>
+    requires { (i ≤ theta.rows) × (32 * theta.cols ≤ length room.old) }
+    ensures cols { result.cols ≡ theta.entry.cols }
+    ensures rows { result.rows ≡ min (theta.entry.rows - i) 32 }
+    ensures holds { Holds (entries theta.entry) theta.entry.cols i result.rows result.numbers.now }
 {
-    let mut left = n_rows;
-    while left > 0 {
-        let h = page_rows(left, 32);
-        fill_rows(theta, n_cols, n_rows - left, h, page);
-        add_page(page, n_cols, h, out);
-        left = left - h;
+    let h = (theta.rows - i).min(32);
+    fill_page(theta, i, h, room);
+    Page {
+        numbers: room,
+        cols: theta.cols,
+        rows: h,
     }
 }
 
-// Room for pages of up to 64 columns.
-fn wide(theta: &[f64], n_rows: usize, n_cols: usize, out: &mut [f64])
-    requires { Matrix n_rows n_cols (length theta.now) × UpperSums (cell_of n_cols theta.now) n_cols 0 out.old }
-    ensures { UpperSums (cell_of n_cols theta.now) n_cols n_rows out.new }
+// The sums take all rows, page by page, with room for pages of so many numbers.
+fn add_pages<const ROOM: usize>(theta: Theta<'_>, out: &mut [f64])
+    requires { (32 * theta.cols ≤ ROOM) × (ROOM ≤ 2048) × UpperSums (entries theta) theta.cols 0 out.old }
+    ensures { UpperSums (entries theta.entry) theta.entry.cols theta.entry.rows out.new }
 {
-    let mut page = [0.0; 2048];
-    add_pages(theta, n_rows, n_cols, &mut page, out);
-}
-
-// Room for pages of up to 16 columns: a quarter of the room to clear, which shows where there are few rows.
-fn narrow(theta: &[f64], n_rows: usize, n_cols: usize, out: &mut [f64])
-    requires { Matrix n_rows n_cols (length theta.now) × (n_cols ≤ 16) × UpperSums (cell_of n_cols theta.now) n_cols 0 out.old }
-    ensures { UpperSums (cell_of n_cols theta.now) n_cols n_rows out.new }
-{
-    let mut page = [0.0; 512];
-    add_pages(theta, n_rows, n_cols, &mut page, out);
-}
-
-// The sums on and above the diagonal, +0.0 before, take all rows.
-pub fn add_rows(theta: &[f64], n_rows: usize, n_cols: usize, out: &mut [f64])
-    requires { Matrix n_rows n_cols (length theta.now) × UpperSums (cell_of n_cols theta.now) n_cols 0 out.old }
-    ensures { UpperSums (cell_of n_cols theta.now) n_cols n_rows out.new }
-{
-    if n_cols > 16 {
-        wide(theta, n_rows, n_cols, out);
-        return;
+    let mut room = [0.0; ROOM];
+    for number in 0..theta.rows.div_ceil(32) {
+        let page = page_at(theta, 32 * number, &mut room);
+        add_page(page, out);
     }
-    narrow(theta, n_rows, n_cols, out);
+}
+
+// The sums on and above the diagonal, +0.0 before, take all rows. Up to 16 columns take a quarter of the room to clear, which shows where there are few rows.
+pub fn add_rows(theta: Theta<'_>, out: &mut [f64])
+    requires { UpperSums (entries theta) theta.cols 0 out.old }
+    ensures { UpperSums (entries theta.entry) theta.entry.cols theta.entry.rows out.new }
+{
+    if theta.cols > 16 {
+        add_pages::<2048>(theta, out);
+    } else {
+        add_pages::<512>(theta, out);
+    }
 }

@@ -14,7 +14,7 @@ fn add_row(theta: &[f64], n_cols: usize, i: usize, x: f64, sums: &mut [f64])
     ensures { Wrote (λ q. q) 0 n_cols (λ q. plus (at sums.old q) (times x (cell_of n_cols theta.now i q))) sums.old sums.new }
 {
     for q in 0..n_cols {
-        sums[q] = sums[q] + x * at_term(theta, n_cols, i, Term(q));
+        sums[q] += x * at_term(theta, n_cols, i, Term(q));
     }
 }
 

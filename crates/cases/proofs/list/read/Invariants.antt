@@ -3,7 +3,7 @@ use Rattle.std.proofs.Common.{◌≡◌, ◌-◌, ◌≤◌, ◌<◌, length}
 use Rattle.cases.proofs.list.read.Given as goal
 
 abbrev pub invariant-loop-n : goal.invariant-loop-n
-invariant-loop-n l = (l.n ≤ length l.room) × (length l.room ≡ length l.initial.room) × (0 < l.size) × (l.size ≤ 64)
+invariant-loop-n g l = (l.n ≤ length l.room) × (length l.room ≡ length l.initial.room) × (0 < l.size) × (l.size ≤ 64)
 
 abbrev pub decreases-loop-n : goal.decreases-loop-n
-decreases-loop-n l = length l.room - l.n
+decreases-loop-n g l = length l.room - l.n

@@ -1,9 +1,10 @@
 -- `groups`: the loop's invariant is that each exchange that was run takes some of the list, and that no more are alike than were run; what is left of the list is the measure. Assumes nothing.
-use Rattle.std.proofs.Common.{◌-◌, ◌≤◌, length}
+use Rattle.std.proofs.Common.{◌-◌, length}
+use Rattle.cases.specs.List.{Tallied}
 use Rattle.cases.proofs.replay.groups.Given as goal
 
-abbrev pub invariant-loop-at : goal.invariant-loop-at
-invariant-loop-at g l = (l.at ≤ length l.list) × (l.all ≤ l.at) × (l.same ≤ l.all)
+abbrev pub invariant-loop-end : goal.invariant-loop-end
+invariant-loop-end g l = Tallied l.total 0 (length l.list)
 
-abbrev pub decreases-loop-at : goal.decreases-loop-at
-decreases-loop-at g l = length l.list - l.at
+abbrev pub decreases-loop-end : goal.decreases-loop-end
+decreases-loop-end g l = length l.list - l.total.end

@@ -1,12 +1,9 @@
--- `coefficient` meets its contract: beyond the coefficients the list has a NaN, and 0.0 / 0.0 is one.
-use mathlib.Core.Path.{sym, ◌∙◌}
+-- `coefficient` meets its contract: beyond the coefficients the list has a NaN.
+use mathlib.Core.Path.{◌∙◌}
 use native.Mathlib.Omega.{arith}
-use lib.ListN.{get_or-eq_default}
-use lib.Ieee.{nan}
-use Rattle.steps.specs.Nan.{zero_over_zero}
+use lib.Ieee.{nan, of_bits}
 use Rattle.coeffs.proofs.inner.coefficient.Goals as goal
 
 pub returns : goal.returns
-returns c =
-    let a = c.args in
-    zero_over_zero ∙ sym (get_or-eq_default a.coeffs.now nan {n = a.term_idx.0} (omega arith))
+unfolding of_bits
+returns c = c.unwrap_or.ensures ∙ rw c.copied.ensures (c.get.ensures.lookup.4 (omega arith) nan)

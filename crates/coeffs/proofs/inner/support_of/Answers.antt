@@ -1,6 +1,5 @@
--- `support_of` meets its contract. The loop's invariant: the word has the terms passed whose coefficients are kept.
-use mathlib.Core.Path.{◌≡◌, refl, sym, ◌∙◌}
-use Prim.Native.Nat.{◌-◌}
+-- `support_of` meets its contract: a look at one more term.
+use mathlib.Core.Path.{◌≡◌, sym, ◌∙◌}
 use native.Mathlib.Omega.{arith}
 use lib.ListN.{length}
 use Rattle.steps.specs.Num.{at}
@@ -10,16 +9,16 @@ use Rattle.coeffs.proofs.Spread.{word_more}
 use Rattle.coeffs.proofs.inner.support_of.Goals as goal
 
 pub loop-j-init : goal.loop-j-init
-loop-j-init c = (refl, omega arith, omega arith, c.empty-s.ensures ∙ sym (word_none _))
+loop-j-init c = c.empty-s.ensures ∙ sym (word_none _)
 
 pub loop-j-preserved : goal.loop-j-preserved
 loop-j-preserved c =
     let turn = c.loop-j in
     let a = c.args in
-    (refl, omega arith, omega arith, word_more (λ k. keeps a.setup k (at a.coeffs.now k)) turn.j turn.s.0 _ (omega arith) turn.invariant.3 c.look_at-s.ensures)
+    word_more (λ k. keeps a.setup k (at a.coeffs.now k)) turn.j turn.s.0 _ (omega arith) turn.invariant c.look_at-s.ensures
 
 pub returns : goal.returns
 returns c =
     let turn = c.loop-j in
     let all : turn.j ≡ length c.args.coeffs.now = omega arith in
-    rw all at turn.invariant.3
+    rw all at turn.invariant

@@ -1,25 +1,21 @@
--- `float64::root::widened` meets its contract. The measure is the exponent left. Assumes nothing.
-use Rattle.std.proofs.Common.{◌<◌, refl, arith}
-use Rattle.float64.proofs.Turns.{shift_some, shift_more}
-use Rattle.float64.proofs.root.widened.Goals.{In-loop-s}
+-- `float64::root::widened` meets its contract: the number is moved up by what its first digit lacks to the 53rd. Assumes nothing.
+use Rattle.std.proofs.Common.{◌≡◌, ◌-◌, ◌*◌, ◌%◌, ◌^◌, ap, ◌∙◌, arith}
+use Rattle.float64.proofs.Turns.{shifted, first_below}
 use Rattle.float64.proofs.root.widened.Goals as goal
 
-some : (c : In-loop-s) → 0 < c.loop-s.e
-some c = shift_some _ _ _ c.requires.fact_1 c.loop-s.invariant c.loop-s-test.true
+pub overflow_sub-result : goal.overflow_sub-result
+overflow_sub-result c = omega (arith, first_below _ _ c.ilog2-exp.ensures.power_le c.ilog2-exp.ensures.next_power_gt c.requires.few)
 
-pub loop-s-init : goal.loop-s-init
-loop-s-init c = record { same = refl; high = omega arith; most = omega arith }
-
-pub overflow_sub-e : goal.overflow_sub-e
-overflow_sub-e c = some (goal.at.overflow_sub-e c).In-loop-s
-
-pub loop-s-smaller : goal.loop-s-smaller
-loop-s-smaller c = omega (arith, some (goal.at.loop-s-smaller c).In-loop-s)
-
-pub loop-s-preserved : goal.loop-s-preserved
-loop-s-preserved c = shift_more _ _ _ c.requires.fact_1 c.loop-s.invariant c.loop-s-test.true
+pub invariant_of-result : goal.invariant_of-result
+invariant_of-result c =
+    let e = c.ilog2-exp in
+    let first = first_below _ _ e.ensures.power_le e.ensures.next_power_gt c.requires.few in
+    let m = shifted _ _ e.ensures.power_le e.ensures.next_power_gt first in
+    record { low = omega (arith, m.low_53, m.high_53); high = omega (arith, m.high_53); most = omega (arith, first) }
 
 pub returns : goal.returns
 returns c =
-    let t = c.loop-s.invariant in
-    record { same = t.same; low = c.loop-s-test.false; high = t.high; most = omega (arith, t.most) }
+    let e = c.ilog2-exp in
+    let m = shifted _ _ e.ensures.power_le e.ensures.next_power_gt (first_below _ _ e.ensures.power_le e.ensures.next_power_gt c.requires.few) in
+    let whole : c.args.sig * 2 ^ (52 - e.result) % 2 ^ 64 ≡ c.args.sig * 2 ^ (52 - e.result) = omega (arith, m.high_53) in
+    rw c.from.ensures (ap (λ x. x * 2 ^ e.result) whole ∙ m.same)

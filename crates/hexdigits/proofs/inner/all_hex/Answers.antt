@@ -1,22 +1,14 @@
--- `all_hex` looks at each of the n bytes. The loop's invariant: the bytes before i are digits.
-use mathlib.Core.Path.{sym}
-use mathlib.Core.Bool.{true}
-use Prim.Native.Nat.{◌-◌}
-use native.Mathlib.Omega.{arith}
-use Rattle.hexdigits.specs.Parts.{hex_none, hex_more, hex_end, hex_not}
+-- `all_hex` looks for a byte that is no digit. Assumes nothing.
+use Rattle.std.proofs.Common.{◌≤◌, ◌<◌, rules}
+use Rattle.std.proofs.lemmas.Iterator.{cases_from_all, YieldsList-from_slice}
+use Rattle.std.proofs.lemmas.Bool.Decides.{nat_tests}
+use Rattle.hexdigits.specs.Hex.{value, digit}
+use Rattle.hexdigits.proofs.Runs.{run, hex_answer}
 use Rattle.hexdigits.proofs.inner.all_hex.Goals as goal
 
-pub loop-i-init : goal.loop-i-init
-loop-i-init c = (omega arith, hex_none _ _)
-
-pub returns-then-value-gt15 : goal.returns-then-value-gt15
-returns-then-value-gt15 c =
-    sym (hex_not _ _ c.loop-i.i _ (omega arith) (rw c.value.ensures at c.if-value-gt15.true))
-
-pub loop-i-preserved : goal.loop-i-preserved
-loop-i-preserved c =
-    (omega arith, hex_more _ _ _ c.loop-i.invariant.1 (omega (arith, c.value.ensures)))
-
 pub returns : goal.returns
+unfolding digit
 returns c =
-    sym (hex_end _ _ c.loop-i.invariant.1 (omega arith) (omega arith))
+    let a = c.args in
+    hex_answer a.s.now a.at a.n _ c.requires
+    (cases_from_all _ _ _ (λ b. value b < 16) (λ b. 16 ≤ value b) c.all.ensures.ran (YieldsList-from_slice (run a.s.now a.at a.n) (search rules)) (λ x q k. search (rules, nat_tests)) (λ x q k. search (rules, nat_tests)))

@@ -1,15 +1,12 @@
--- `write_hex` writes from the last digit to the first. The loop's invariant: the last k digits of w stand where they belong, and `rest` has those that are left.
-use Prim.Native.Nat.{◌-◌}
-use native.Mathlib.Omega.{arith}
+-- `write_hex` writes a digit a turn. Assumes nothing.
 use Rattle.hexdigits.proofs.Writing.{writing_none, writing_more, writing_end}
 use Rattle.hexdigits.proofs.inner.write_hex.Goals as goal
 
-pub loop-k-init : goal.loop-k-init
-loop-k-init c = writing_none _ _ _ _
+pub loop-i-init : goal.loop-i-init
+loop-i-init c = writing_none _ _ _ _
 
-pub loop-k-preserved : goal.loop-k-preserved
-loop-k-preserved c =
-    writing_more _ _ _ _ (omega arith) c.requires c.glyph.ensures c.loop-k.invariant
+pub loop-i-preserved : goal.loop-i-preserved
+loop-i-preserved c = writing_more _ _ _ _ c.loop-i-test.true c.requires c.glyph.ensures c.loop-i.invariant
 
-pub returns : goal.returns
-returns c = writing_end _ _ _ _ (omega arith) c.loop-k.invariant
+pub returns-clause-written : goal.returns-clause-written
+returns-clause-written c = writing_end _ _ _ _ c.loop-i-test.false c.loop-i.invariant

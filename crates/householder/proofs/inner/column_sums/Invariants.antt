@@ -1,9 +1,6 @@
 -- `column_sums` meets its contract. The loop's invariant: the sums are those over the rows passed.
-use mathlib.Core.Path.{◌≡◌}
-use Prim.Native.Nat.{◌-◌, ◌≤◌}
-use lib.ListN.{length}
 use Rattle.householder.specs.Steps.{Sums}
 use Rattle.householder.proofs.inner.column_sums.Given as goal
 
 abbrev pub invariant-loop-i : goal.invariant-loop-i
-invariant-loop-i l = (l.j ≤ l.i) × (l.i ≤ l.m) × (length l.w ≡ length l.initial.w) × Sums l.i l.n l.j l.x l.a l.w
+invariant-loop-i l = Sums l.i l.n l.j l.x l.a l.w

@@ -1,11 +1,7 @@
 -- `each_column` meets its contract. The loop's invariant: the matrix has had the columns passed, and their betas stand in b.
 -- one more column
-use mathlib.Core.Path.{◌≡◌, refl, sym, ap, ◌∙◌}
-use mathlib.Core.List.{List}
-use Prim.Native.Nat.{ℕ, ◌+◌, ◌-◌, ◌<◌}
-use native.Mathlib.Omega.{arith}
-use lib.ListN.{length, length-set, set}
-use lib.Ieee.{Float}
+use Rattle.std.specs.Prelude.{◌≡◌, List, ℕ, ◌+◌, ◌<◌, length, set, Float}
+use Rattle.std.proofs.Common.{sym, ap, ◌∙◌, arith}
 use Rattle.steps.specs.Loops.{loop_none, loop_more}
 use Rattle.steps.specs.Table.{filled, filled_none, filled_more, filled_end}
 use Rattle.householder.specs.Qr.{column, after, beta, betas}
@@ -23,31 +19,22 @@ beta-more m n j a t u b b₀ x is step h fill =
 
 pub loop-j-init : goal.loop-j-init
 unfolding after
-loop-j-init c = (omega arith, refl, refl, sym (loop_none _ _ _), filled_none _ _)
+loop-j-init c = (sym (loop_none _ _ _), filled_none _ _)
 
 pub loop-j-preserved : goal.loop-j-preserved
 loop-j-preserved c =
     let turn = c.loop-j in
     let args = c.args in
     let a = args.a.now in
-    let made = c.qr_column-beta in
+    let made = c.qr_column in
     let room : turn.j < length args.b.now = omega (arith, c.loop-j-test.true, c.requires.1) in (
-      omega (arith, c.loop-j-test.true),
-      made.auto.a ∙ turn.invariant.1,
-      simp length-set turn.invariant.2,
-      after_more args.m args.n turn.j a turn.a made.new.a made.result turn.invariant.3 made.ensures,
-      beta-more args.m args.n turn.j a turn.a made.new.a turn.b args.b.now made.result turn.invariant.3 made.ensures room turn.invariant.4,
+      after_more args.m args.n turn.j a turn.a made.new.a made.result turn.invariant.0 made.ensures,
+      beta-more args.m args.n turn.j a turn.a made.new.a turn.b args.b.now made.result turn.invariant.0 made.ensures room turn.invariant.1,
     )
-
-pub shape_of-a : goal.shape_of-a
-shape_of-a c = c.loop-j.invariant.1
-
-pub shape_of-b : goal.shape_of-b
-shape_of-b c = c.loop-j.invariant.2
 
 pub returns : goal.returns
 unfolding betas
 returns c =
     let end = c.loop-j in
     let all : end.j ≡ c.args.n = omega arith in
-    (rw all at end.invariant.3, (rw all at end.invariant.4) ∙ filled_end _ _ _ c.requires.1)
+    (rw all at end.invariant.0, (rw all at end.invariant.1) ∙ filled_end _ _ _ c.requires.1)

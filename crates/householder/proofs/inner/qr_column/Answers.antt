@@ -1,11 +1,6 @@
 -- `qr_column` meets its contract: its three ways out are those of `column`.
-use native.Mathlib.Omega.{arith}
-use lib.Arith.{digits_lt}
 use Rattle.householder.proofs.Column.{sums_none, skips, skips_push, reflects}
 use Rattle.householder.proofs.inner.qr_column.Goals as goal
-
-pub cell-lead-requires : goal.cell-lead-requires
-cell-lead-requires c = let shape = c.requires in omega (arith, digits_lt shape.tall shape.wide, shape.size)
 
 pub returns-then-norm : goal.returns-then-norm
 returns-then-norm c =
@@ -19,8 +14,7 @@ returns-then-q c =
     c.sign_of.ensures c.squares-q.ensures c.if-norm.false c.if-q.true
 
 pub column_sums-requires : goal.column_sums-requires
-column_sums-requires c =
-    (c.requires, c.requires.cols, sums_none c.args.n c.args.j _ c.args.a.now c.requires.cols)
+column_sums-requires c = (c.requires, c.requires.cols, sums_none c.args.n c.args.j _ c.args.a.now c.requires.cols)
 
 pub returns : goal.returns
 returns c =

@@ -1,21 +1,17 @@
 -- `scale` meets its contract. The loop's invariant: the numbers of the columns passed have their new value.
-use Prim.Native.Nat.{◌-◌}
-use native.Mathlib.Omega.{arith}
+use Rattle.std.proofs.Common.{arith}
 use Rattle.steps.specs.Num.{times}
 use Rattle.steps.specs.Wrote.{wrote_none, wrote_turn, wrote_end}
 use Rattle.householder.proofs.inner.scale.Goals as goal
 
 pub loop-c-init : goal.loop-c-init
-loop-c-init c = (omega arith, omega arith, wrote_none _ _ _ _)
+loop-c-init c = wrote_none _ _ _ _
 
 pub loop-c-preserved : goal.loop-c-preserved
 loop-c-preserved c =
     let turn = c.loop-c in
     let x = c.args.x in
-    (omega arith, omega arith, wrote_turn (λ k. k) (λ k z. times x z) _ turn.c _ turn.w turn.invariant.0 (omega arith) (λ k h h' e. omega arith) turn.invariant.2)
-
-pub shape_of-w : goal.shape_of-w
-shape_of-w c = c.loop-c.invariant.2.long
+    wrote_turn (λ k. k) (λ k z. times x z) _ turn.c _ turn.w turn.auto.c (omega arith) (λ k h h' e. omega arith) turn.invariant
 
 pub returns : goal.returns
-returns c = let end = c.loop-c in wrote_end _ _ end.c _ _ _ _ end.invariant.2 (omega arith) (omega arith)
+returns c = let end = c.loop-c in wrote_end _ _ end.c _ _ _ _ end.invariant (omega arith) (omega arith)

@@ -1,9 +1,5 @@
 -- `update` meets its contract. The loop's invariant: of whatever matrix z the leading row's step was taken, the rows above i have had theirs.
-use mathlib.Core.Path.{◌≡◌}
-use mathlib.Core.List.{List}
-use Prim.Native.Nat.{◌+◌, ◌*◌, ◌-◌, ◌≤◌}
-use lib.ListN.{length}
-use lib.Ieee.{Float}
+use Rattle.std.specs.Prelude.{◌≡◌, List, ◌+◌, ◌*◌, length, Float}
 use Rattle.steps.specs.Num.{at, cell}
 use Rattle.steps.specs.Rows.{Rows}
 use Rattle.householder.proofs.Rows.{New}
@@ -11,5 +7,4 @@ use Rattle.householder.proofs.inner.update.Given as goal
 
 abbrev pub invariant-loop-i : goal.invariant-loop-i
 invariant-loop-i l =
-    (l.j + 1 ≤ l.i) × (l.i ≤ l.m) × (length l.a ≡ length l.initial.a)
-    × ((z : List Float) → length z ≡ l.m * l.n → Rows l.m l.n (New l.j l.x (at l.t) (cell l.n z)) z (l.j + 1) l.initial.a → Rows l.m l.n (New l.j l.x (at l.t) (cell l.n z)) z l.i l.a)
+    (z : List Float) → length z ≡ l.m * l.n → Rows l.m l.n (New l.j l.x (at l.t) (cell l.n z)) z (l.j + 1) l.initial.a → Rows l.m l.n (New l.j l.x (at l.t) (cell l.n z)) z l.i l.a

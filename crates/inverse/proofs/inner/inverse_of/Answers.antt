@@ -1,5 +1,5 @@
 -- `inverse_of` meets its contract: each unit column went through both substitutions.
-use mathlib.Core.Path.{ap, ◌∙◌}
+use Rattle.std.proofs.Common.{ap, ◌∙◌}
 use Rattle.cholesky.specs.Cholesky.{chol_forward, chol_back}
 use Rattle.inverse.specs.Inverse.{inverse_column}
 use Rattle.inverse.proofs.ColumnLaws.{columns_inverse}
@@ -8,9 +8,8 @@ use Rattle.inverse.proofs.inner.inverse_of.Goals as goal
 pub returns : goal.returns
 unfolding inverse_column
 returns c =
-    let args = c.args in
-    let n = args.n in
-    let l = args.l.now in
+    let n = c.args.l.n in
+    let l = c.args.l.numbers.now in
     columns_inverse n l _
     record {
       square = c.back_rows.ensures.square;

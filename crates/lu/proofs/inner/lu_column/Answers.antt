@@ -1,10 +1,8 @@
 -- `lu_column` meets its contract: stopped at a small pivot, else swapped and eliminated.
 -- a column whose pivot is small stops there; another one is swapped and eliminated
-use mathlib.Core.Path.{◌≡◌, sym}
-use mathlib.Core.Bool.{true, false}
-use mathlib.Core.List.{List}
-use Prim.Native.Nat.{ℕ}
-use lib.Ieee.{Float, lt}
+use Rattle.std.specs.Prelude.{◌≡◌, true, false, List, ℕ, Float}
+use Rattle.std.proofs.Common.{sym}
+use Rattle.std.specs.Float.Ieee.{lt}
 use Rattle.steps.specs.Num.{1e-15}
 use Rattle.steps.specs.Loops.{going, stopped}
 use Rattle.lu.specs.Lu.{Pivots, lu_swap, eliminated, lu_eliminate, lu_pivoted, lu_column}
@@ -19,9 +17,9 @@ column_goes : (n k row : ℕ) (size : Float) (a b a' b' a'' : List Float) → Pi
 unfolding lu_column lu_pivoted lu_eliminate
 column_goes n k row size a b a' b' a'' p large s e = rw (← p.is, ← p.greatest, large, ← s, e)
 
-pub returns-then-p : goal.returns-then-p
-returns-then-p c = sym (column_stops _ _ _ _ _ _ c.find_pivot-p.ensures c.if-p.true)
+pub returns-then-pivot : goal.returns-then-pivot
+returns-then-pivot c = sym (column_stops _ _ _ _ _ _ c.find_pivot-pivot.ensures c.if-pivot.true)
 
 pub returns : goal.returns
 returns c =
-    sym (column_goes _ _ _ _ _ _ _ _ _ c.find_pivot-p.ensures c.if-p.false c.swap_both.ensures c.eliminate.ensures)
+    sym (column_goes _ _ _ _ _ _ _ _ _ c.find_pivot-pivot.ensures c.if-pivot.false c.swap_both.ensures c.eliminate.ensures)

@@ -1,8 +1,7 @@
--- `sum_four` meets its contract. The loop's invariant: the four sums have taken the rows passed.
-use Prim.Native.Nat.{◌-◌, ◌≤◌}
+-- The sums have taken the rows passed.
 use Rattle.pairs.specs.Grown.{with_rows}
 use Rattle.pairs.specs.Tiles.{FourOf}
 use Rattle.pairs.proofs.kernel.sum_four.Given as goal
 
 abbrev pub invariant-loop-i : goal.invariant-loop-i
-invariant-loop-i l = (l.i ≤ l.h) × FourOf (with_rows l.page l.n l.i l.out l.p) l.q l.s
+invariant-loop-i l = FourOf (with_rows l.page.numbers.now l.page.cols l.i l.out l.p) l.q l.s

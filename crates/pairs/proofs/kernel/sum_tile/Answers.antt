@@ -1,47 +1,31 @@
--- `sum_tile` meets its contract. The loop's invariant: the sums have taken the rows passed.
+-- `sum_tile` meets its contract: a row more.
 use mathlib.Core.Path.{◌≡◌}
-use Prim.Native.Nat.{◌-◌}
 use native.Mathlib.Omega.{arith}
 use Rattle.pairs.proofs.Changes.{in_page, in_square, put_grown}
 use Rattle.pairs.proofs.Sofar.{tile_none, tile_more}
 use Rattle.pairs.proofs.kernel.sum_tile.Goals as goal
 
 pub tile_at-s-requires : goal.tile_at-s-requires
-tile_at-s-requires c =
-    let pre = c.requires in
-    (in_square _ _ _ _ pre.0 _ pre.1, pre.1, pre.2)
+tile_at-s-requires c = (in_square _ _ c.requires.0 _ c.requires.1, c.requires.1, c.requires.2)
 
 pub loop-i-init : goal.loop-i-init
-loop-i-init c = (omega arith, tile_none _ _ _ _ _ _ c.tile_at-s.ensures)
+loop-i-init c = tile_none _ _ _ _ _ _ c.tile_at-s.ensures
 
 pub four_at-x-requires : goal.four_at-x-requires
-four_at-x-requires c =
-    let pre = c.requires in
-    (in_page _ _ _ _ pre.0 _ c.loop-i-test.true, pre.1)
+four_at-x-requires c = (in_page c.args.page _ c.loop-i-test.true, c.requires.1)
 
 pub four_at-y-requires : goal.four_at-y-requires
-four_at-y-requires c =
-    let pre = c.requires in
-    (in_page _ _ _ _ pre.0 _ c.loop-i-test.true, pre.2)
-
-pub overflow_step-i : goal.overflow_step-i
-overflow_step-i c =
-    omega (arith, c.loop-i-test.true, c.well_formed)
-
-pub loop-i-smaller : goal.loop-i-smaller
-loop-i-smaller c = omega (arith, c.loop-i-test.true)
+four_at-y-requires c = (in_page c.args.page _ c.loop-i-test.true, c.requires.2)
 
 pub loop-i-preserved : goal.loop-i-preserved
 loop-i-preserved c =
     let turn = c.loop-i in
-    (omega (arith, c.loop-i-test.true), tile_more _ _ _ turn.i _ _ _ _ _ _ turn.invariant.1 c.four_at-x.ensures c.four_at-y.ensures c.tile_more-s.ensures)
+    tile_more _ _ _ turn.i _ _ _ _ _ _ turn.invariant c.four_at-x.ensures c.four_at-y.ensures c.tile_more-s.ensures
 
 pub put_tile-requires : goal.put_tile-requires
-put_tile-requires c =
-    let pre = c.requires in
-    (in_square _ _ _ _ pre.0 _ pre.1, pre.1, pre.2)
+put_tile-requires c = (in_square _ _ c.requires.0 _ c.requires.1, c.requires.1, c.requires.2)
 
 pub returns : goal.returns
 returns c =
-    let all : c.loop-i.i ≡ c.args.h = omega arith in
-    put_grown _ _ _ _ _ _ _ _ _ (c.put_tile.ensures.put _ (rw all at c.loop-i.invariant.1))
+    let all : c.loop-i.i ≡ c.args.page.rows = omega arith in
+    put_grown _ _ _ _ _ _ _ _ _ (c.put_tile.ensures.put _ (rw all at c.loop-i.invariant))

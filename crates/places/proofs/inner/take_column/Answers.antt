@@ -1,6 +1,5 @@
--- `take_column` meets its contract. The loop's invariant: the places passed have the column's numbers.
--- each place is met once
-use Prim.Native.Nat.{ℕ, ◌+◌, ◌*◌, ◌-◌, ◌<◌}
+-- `take_column` meets its contract: each place is met once.
+use Prim.Native.Nat.{ℕ, ◌+◌, ◌*◌, ◌<◌}
 use native.Mathlib.Omega.{arith}
 use Rattle.steps.specs.Table.{row_fits}
 use Rattle.steps.specs.Wrote.{Apart, wrote_none, wrote_more, wrote_end}
@@ -10,25 +9,15 @@ steps_apart : (width first i : ℕ) → 0 < width → Apart (λ k. k * width + f
 steps_apart width first i b k l l' e = omega (arith, row_fits i width k l')
 
 pub loop-k-init : goal.loop-k-init
-loop-k-init c = (omega arith, wrote_none _ _ _ _)
-
-pub put-requires : goal.put-requires
-put-requires c =
-    let turn = c.loop-k in
-    omega (arith, c.requires.2 turn.k (omega arith), turn.invariant.1.long)
+loop-k-init c = wrote_none _ _ _ _
 
 pub loop-k-preserved : goal.loop-k-preserved
 loop-k-preserved c =
     let turn = c.loop-k in
     let a = c.args in
-    let room = c.requires.2 turn.k (omega arith) in (
-      omega arith,
-      rw c.put.ensures
-          (wrote_more (λ q. q * a.width + a.first) 0 turn.k _ a.page.now turn.page _ (omega arith) room (steps_apart a.width a.first turn.k c.requires.1) turn.invariant.1 c.at_column-x.ensures),
-    )
-
-pub shape_of-page : goal.shape_of-page
-shape_of-page c = c.loop-k.invariant.1.long
+    let room = c.requires.2 turn.k (omega arith) in
+    rw c.put.ensures
+    (wrote_more (λ q. q * a.width + a.first) 0 turn.k _ a.page.now turn.page _ (omega arith) room (steps_apart a.width a.first turn.k c.requires.1) turn.invariant c.at_column-x.ensures)
 
 pub returns : goal.returns
-returns c = let end = c.loop-k in wrote_end _ _ end.k _ _ _ _ end.invariant.1 (omega arith) (omega arith)
+returns c = let end = c.loop-k in wrote_end _ _ end.k _ _ _ _ end.invariant (omega arith) (omega arith)

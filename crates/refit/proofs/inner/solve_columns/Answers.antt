@@ -7,18 +7,18 @@ use Rattle.refit.proofs.inner.solve_columns.Goals.{In-Sums}
 use Rattle.refit.proofs.inner.solve_columns.Goals as goal
 
 -- from the sums, with a damping
-from : (c : In-Sums) → FromSums c.args.task.solver c.args.task.setup.lambda c.in-Sums.damping
+from : (c : In-Sums) → FromSums c.args.given.task.solver c.args.given.task.setup.lambda c.in-Sums.damping
 from c = from_sums _ _ _ (sym c.method_of.ensures ∙ c.in-Sums.is)
 
 pub solve_normal-requires : goal.solve_normal-requires
 solve_normal-requires c =
     let s = c.requires.0 in
-    (s.sized.limited.few_cols, s.within, s.count, block_fits s c.requires.1 (from (goal.at.solve_normal-requires c).In-Sums))
+    (c.args.given.sized.limited.few_cols, s.within, s.count, block_fits s c.requires.1 (from (goal.at.solve_normal-requires c).In-Sums))
 
 pub returns-in-Sums : goal.returns-in-Sums
 returns-in-Sums c =
     let a = c.args in
     let made = c.solve_normal.ensures in (
-      made.0 ∙ kept_is a.task a.theta.now a.target.now (from (goal.at.returns-in-Sums c).In-Sums) a.ws.now a.support.0 c.requires.2 c.requires.0.within,
-      kept_on a.task a.theta.now a.target.now a.ws.now _ made.1 c.requires.2,
+      made.0 ∙ kept_is a.given (from (goal.at.returns-in-Sums c).In-Sums) a.ws.now a.support.0 c.requires.2 c.requires.0.within,
+      kept_on a.given a.ws.now _ made.1 c.requires.2,
     )

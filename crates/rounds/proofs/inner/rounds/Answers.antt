@@ -1,12 +1,10 @@
 -- `rounds` meets its contract: each turn of the loop is a round of the rule, and after it the rounds are used up.
 use mathlib.Core.Path.{◌≡◌, refl, ap, subst, ◌∙◌}
 use mathlib.Core.List.{[]}
-use Prim.Native.Nat.{ℕ, ◌≤◌, ◌<◌}
-use native.Mathlib.Omega.{arith}
-use lib.ListN.{length}
+use Prim.Native.Nat.{◌<◌}
 use Rattle.rule.specs.Rule.{Problem, going, rounds}
 use Rattle.rule.specs.Dropped.{drops, or_else, dropped}
-use Rattle.rule.specs.Fits.{problem_of}
+use Rattle.rule.specs.Givens.{problem_given}
 use Rattle.rounds.specs.Turned.{Turned}
 use Rattle.rounds.specs.declared.inner.Turn.{Turn}
 use Rattle.rounds.proofs.Turns.{Going, used_up, goes_on, ends_empty, ends_settled, ends_refused}
@@ -17,20 +15,19 @@ use Rattle.rounds.proofs.inner.rounds.Goals as goal
 -- after a turn's round
 module _ (c : After-round) where
   abbrev P : Problem
-  P = problem_of c.args.task c.args.theta.now c.args.target.now
+  P = problem_given c.args.given
 
   abbrev so_far : Going P c.loop-refits.refits c.args.term_idx.0 c.loop-refits.drop c.loop-refits.coeffs c.loop-refits.last.0
   so_far = c.loop-refits.invariant.0
 
-  in_limit : c.loop-refits.refits < c.args.task.setup.max_iter
+  in_limit : c.loop-refits.refits < c.args.given.task.setup.max_iter
   in_limit = c.loop-refits-test.true
 
   -- its look at the term that is watched
   seen : c.watched-drop.result ≡ or_else c.loop-refits.drop (drops P c.args.term_idx.0 (going c.loop-refits.coeffs so_far.past))
   seen =
-      let a = c.args in
       let long = c.loop-refits.auto.coeffs ∙ c.requires.0.coeffs_long in
-      c.watched-drop.ensures ∙ ap (or_else _) (look_drops a.task a.theta.now a.target.now _ long a.term_idx.0 _ so_far.past so_far.count_is)
+      c.watched-drop.ensures ∙ ap (or_else _) (look_drops c.args.given _ long c.args.term_idx.0 _ so_far.past so_far.count_is)
 
   -- what it came to
   came : (t : Turn) → c.round.result ≡ t → Turned P c.loop-refits.last.0 c.loop-refits.coeffs t c.round.new.coeffs
@@ -63,7 +60,6 @@ loop-refits-preserved c =
 
 pub returns : goal.returns
 returns c =
-    let a = c.args in
     let long = c.loop-refits.auto.coeffs ∙ c.requires.0.coeffs_long in
-    let found = support_found a.task a.theta.now a.target.now _ long _ c.support_of.ensures in
+    let found = support_found c.args.given _ long _ c.support_of.ensures in
     rw (c.last_look-stop.ensures, found) (used_up _ _ c.loop-refits.invariant.0 c.loop-refits.auto.refits-end c.loop-refits-test.false)

@@ -1,18 +1,21 @@
 -- `least_into` meets its contract: what the solve told.
-use mathlib.Core.Path.{◌≡◌, ◌∙◌}
-use Prim.Native.Nat.{◌+◌, ◌-◌}
-use native.Mathlib.Omega.{arith}
-use lib.ListN.{length}
-use Rattle.solve.proofs.Ends.{least_stops, least_solves}
+use Rattle.std.proofs.Common.{◌≡◌, ◌+◌, ◌-◌, length, ◌∙◌, arith}
+use Rattle.std.proofs.lemmas.Result.{err_from_is_err_and}
+use Rattle.refusal.specs.declared.Refusal.TheVariants.{SmallPivot}
+use Rattle.solve.proofs.Ends.{mapped, least_stops, least_solves}
 use Rattle.solve.proofs.ready.least_into.Goals as goal
 
-pub returns-in_default : goal.returns-in_default
-returns-in_default c =
-    least_stops _ _ _ c.in_default.is c.least_of-solved.ensures c.small_pivot.ensures
+pub returns-in_err-map_err : goal.returns-in_err-map_err
+returns-in_err-map_err c =
+    let p = err_from_is_err_and c.from_residual.result c.from_residual.ensures.1 in
+    let was = c.in_err-map_err.was in
+    let i = mapped SmallPivot c.least_of.result c.map_err.result (λ c y e. e) c.map_err.ensures.cases in
+    rw (p.1, p.2, ← was) (least_stops _ _ _ i was c.least_of.ensures)
 
 pub returns : goal.returns
 returns c =
     let args = c.args in
     let cells = c.requires.0.cells in
     let wide : length args.a.now + args.n - length args.a.now ≡ args.n = omega arith in
-    least_solves _ _ _ c.in-Done.is c.least_of-solved.ensures (c.copy.ensures ∙ rw (wide, cells))
+    let i = mapped SmallPivot c.least_of.result c.map_err.result (λ c y e. e) c.map_err.ensures.cases in
+    least_solves _ _ _ i c.in_ok-map_err.was c.least_of.ensures (c.copy_from_slice.ensures.after ∙ rw (wide, cells))

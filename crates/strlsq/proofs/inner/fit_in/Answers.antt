@@ -8,10 +8,10 @@ use Rattle.strlsq.proofs.inner.fit_in.Goals as goal
 
 pub returns : goal.returns
 returns c =
-    let a = c.args in
+    let g = c.args.given in
     let ran = c.run-ran in
     let came = ran.new.coeffs in
     let long = ran.auto.coeffs ∙ c.requires.coeffs_long in (
-      ends a.task a.theta.now a.target.now ran.result.stop ran.result.refits came c.prune.new.coeffs long ran.ensures c.prune.ensures,
-      record { drops = ran.ensures.drops; value = c.coefficient-last.ensures ∙ ap (λ (x : List Float). at x a.term_idx.0) ran.ensures.leaves },
+      ends g.task g.theta.now g.target.now ran.result.stop ran.result.refits came c.prune.new.coeffs long ran.ensures c.prune.ensures,
+      record { drops = ran.ensures.drops; value = c.coefficient-last.ensures ∙ ap (λ (x : List Float). at x c.args.term_idx.0) ran.ensures.leaves },
     )

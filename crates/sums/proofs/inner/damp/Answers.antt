@@ -1,5 +1,5 @@
--- `damp` meets its contract. The loop's invariant: the diagonal numbers passed are damped, all else is as it was.
-use Prim.Native.Nat.{◌+◌, ◌-◌, ◌*◌}
+-- `damp` meets its contract: a diagonal number more.
+use Prim.Native.Nat.{◌+◌, ◌*◌}
 use native.Mathlib.Omega.{arith}
 use lib.Arith.{digits_lt}
 use Rattle.steps.specs.Wrote.{wrote_none, wrote_turn, wrote_end, diagonal_apart}
@@ -8,32 +8,25 @@ use Rattle.sums.proofs.Damping.{damped_diagonal}
 use Rattle.sums.proofs.inner.damp.Goals as goal
 
 pub loop-p-init : goal.loop-p-init
-loop-p-init c = (omega arith, wrote_none _ _ _ _)
+loop-p-init c = wrote_none _ _ _ _
 
 pub cell-d-requires : goal.cell-d-requires
 cell-d-requires c = omega (arith, digits_lt c.loop-p-test.true c.loop-p-test.true)
 
 pub put-requires : goal.put-requires
-put-requires c =
-    let test = c.loop-p-test.true in
-    omega (arith, digits_lt test test)
+put-requires c = omega (arith, digits_lt c.loop-p-test.true c.loop-p-test.true)
 
 pub loop-p-preserved : goal.loop-p-preserved
 loop-p-preserved c =
     let turn = c.loop-p in
     let test = c.loop-p-test.true in
-    let k = c.args.k in (
-      omega arith,
-      rw (c.put.ensures, c.damped.ensures, c.cell-d.ensures)
-          (wrote_turn (λ p. p * k + p) (λ p. damps c.args.damping) 0 turn.p c.args.out.now turn.out
-          (omega arith) (omega (arith, digits_lt test test)) (diagonal_apart k turn.p test) turn.invariant.1),
-    )
-
-pub shape_of-out : goal.shape_of-out
-shape_of-out c = c.loop-p.invariant.1.long
+    let k = c.args.k in
+    rw (c.put.ensures, c.damped.ensures, c.cell-d.ensures)
+    (wrote_turn (λ p. p * k + p) (λ p. damps c.args.damping) 0 turn.p c.args.out.now turn.out
+    (omega arith) (omega (arith, digits_lt test test)) (diagonal_apart k turn.p test) turn.invariant)
 
 pub returns : goal.returns
 returns c =
     let end = c.loop-p in
     let out = c.args.out.now in
-    damped_diagonal (damps c.args.damping) c.args.k out end.out c.requires (wrote_end _ 0 end.p _ _ out end.out end.invariant.1 (omega arith) (omega arith))
+    damped_diagonal (damps c.args.damping) c.args.k out end.out c.requires (wrote_end _ 0 end.p _ _ out end.out end.invariant (omega arith) (omega arith))

@@ -1,17 +1,13 @@
 -- `jtj_sums` meets its contract: from a cleared output the upper half takes all rows, then it is mirrored.
 use mathlib.Core.Path.{◌∙◌}
-use Prim.Native.Nat.{◌*◌}
-use Rattle.steps.specs.Space.{at_cleared}
+use lib.ListN.{get_or-replicate}
 use Rattle.sums.specs.PageLaws.{sums_none, mirror_end}
 use Rattle.sums.proofs.inner.jtj_sums.Goals as goal
 
 pub add_rows-requires : goal.add_rows-requires
 add_rows-requires c =
-    let n = c.args.n_cols in (
-      c.requires.0,
-      sums_none _ n _ (c.clear.auto.s ∙ c.requires.1) (λ k h. rw c.clear.ensures (at_cleared (n * n) k c.args.out.now h)),
-    )
+    let zeros = c.fill.ensures in
+    sums_none _ _ _ (zeros.len ∙ c.requires) (λ k h. rw (zeros.after (λ y e. e), c.requires, get_or-replicate))
 
 pub returns : goal.returns
-returns c =
-    mirror_end _ _ _ _ _ c.add_rows.ensures c.mirror.ensures
+returns c = mirror_end _ _ _ _ _ c.add_rows.ensures c.mirror.ensures

@@ -6,6 +6,6 @@ pub returns-then-abs : goal.returns-then-abs
 unfolding marquardt
 returns-then-abs c = rw (← c.abs.ensures, c.if-abs.true)
 
-pub returns : goal.returns
+pub returns-else-abs : goal.returns-else-abs
 unfolding marquardt
-returns c = rw (← c.abs.ensures, c.if-abs.false)
+returns-else-abs c = rw (← c.abs.ensures, c.if-abs.false)

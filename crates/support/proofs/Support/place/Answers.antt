@@ -8,8 +8,8 @@ use Rattle.support.proofs.Support.place.Goals as goal
 pub returns-then-t-ge64 : goal.returns-then-t-ge64
 returns-then-t-ge64 c = c.count.ensures ∙ sym (place_beyond _ 64 _ (omega arith) c.if-t-ge64.true)
 
-pub overflow_sub-m : goal.overflow_sub-m
-overflow_sub-m c = shl_pos _ c.if-t-ge64.false
+pub overflow_sub-below : goal.overflow_sub-below
+overflow_sub-below c = shl_pos _ c.if-t-ge64.false
 
 pub returns : goal.returns
-returns c = c.wide.ensures ∙ place_mask _ _ c.if-t-ge64.false
+returns c = place_mask _ _ c.if-t-ge64.false

@@ -7,4 +7,4 @@ use Rattle.support.specs.Word.{has, count}
 use Rattle.support.proofs.Support.term_at.Given as goal
 
 abbrev pub invariant-loop-j : goal.invariant-loop-j
-invariant-loop-j l = (l.j ≤ 64) × (l.seen ≡ count (has l.self.0) l.j) × (l.seen ≤ l.at)
+invariant-loop-j l = (l.j ≤ 64) × (l.seen ≡ count (has l.self.0) l.j) × (l.seen ≤ l.c.0)

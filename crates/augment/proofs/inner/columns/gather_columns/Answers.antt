@@ -1,50 +1,25 @@
--- `gather_columns` meets its contract. The loop's invariant: the rows passed have theta's supported numbers.
+-- `gather_columns` meets its contract: a page more.
 use mathlib.Core.Path.{◌≡◌}
-use Prim.Native.Nat.{◌+◌, ◌-◌}
+use Prim.Native.Nat.{◌+◌, ◌*◌, min}
 use native.Mathlib.Omega.{arith}
 use Rattle.steps.specs.Rows.{rows_none}
 use Rattle.augment.specs.Taken.{rows_taken}
 use Rattle.augment.proofs.inner.columns.gather_columns.Goals as goal
 
-pub loop-left-init : goal.loop-left-init
-loop-left-init c =
-    let rows = c.args.n_rows in
-    let none : rows - rows ≡ 0 = omega arith in
-    (omega arith, rw none (rows_none _ _ _ _))
+pub loop-page-init : goal.loop-page-init
+loop-page-init c = let none : min 0 c.args.reduced.theta.rows ≡ 0 = omega arith in rw none (rows_none _ _ _ _)
 
-pub page_rows-h-requires : goal.page_rows-h-requires
-page_rows-h-requires c = (omega (arith, c.loop-left-test.true), omega arith)
-
-pub overflow_sub-i : goal.overflow_sub-i
-overflow_sub-i c = omega (arith, c.loop-left.invariant.0)
-
-pub take_columns-requires : goal.take_columns-requires
-take_columns-requires c =
-    let turn = c.loop-left in
-    (c.requires.0, omega (arith, turn.invariant.0, c.page_rows-h.ensures.1), omega (arith, c.requires.1, turn.invariant.1.long))
-
-pub overflow_sub-left : goal.overflow_sub-left
-overflow_sub-left c =
-    omega (arith, c.page_rows-h.ensures.1)
-
-pub loop-left-smaller : goal.loop-left-smaller
-loop-left-smaller c =
-    omega (arith, c.page_rows-h.ensures.0, c.page_rows-h.ensures.1)
-
-pub loop-left-preserved : goal.loop-left-preserved
-loop-left-preserved c =
-    let turn = c.loop-left in
-    let m = c.args.n_rows in
-    let h = c.page_rows-h.result in
-    let rows : m - (turn.left - h) ≡ m - turn.left + h = omega (arith, turn.invariant.0, c.page_rows-h.ensures.1) in
-    (omega (arith, turn.invariant.0), rw rows (rows_taken _ _ _ _ _ _ turn.s _ turn.invariant.1 c.take_columns.ensures))
-
-pub shape_of-s : goal.shape_of-s
-shape_of-s c = c.loop-left.invariant.1.long
+pub loop-page-preserved : goal.loop-page-preserved
+loop-page-preserved c =
+    let turn = c.loop-page in
+    let rows = c.args.reduced.theta.rows in
+    let i = 32 * turn.page in
+    let before : min i rows ≡ i = omega arith in
+    let after : min (32 * (turn.page + 1)) rows ≡ i + c.min-h.result = omega arith in
+    rw after (rows_taken _ _ _ _ _ _ turn.s _ (rw before at turn.invariant) c.take_columns.ensures)
 
 pub returns : goal.returns
 returns c =
-    let end = c.loop-left in
-    let rows = c.args.n_rows in
-    let all : rows - end.left ≡ rows = omega arith in
-    rw all at end.invariant.1
+    let rows = c.args.reduced.theta.rows in
+    let all : min (32 * c.loop-page.page) rows ≡ rows = omega arith in
+    rw all at c.loop-page.invariant

@@ -1,14 +1,12 @@
--- `gather_columns` meets its contract. The loop's invariant: the rows passed have theta's supported numbers.
-use Prim.Native.Nat.{◌+◌, ◌-◌, ◌≤◌}
+-- The rows of the pages passed have theta's supported numbers.
+use Prim.Native.Nat.{◌+◌, ◌*◌, min}
+use lib.ListN.{length}
 use Rattle.steps.specs.Rows.{Rows}
-use Rattle.places.specs.declared.Layout.TheVariants.{ByColumns}
-use Rattle.places.specs.Stored.{stored}
 use Rattle.places.specs.Columns.{listed}
+use Rattle.places.specs.Theta.{by_columns}
 use Rattle.augment.proofs.inner.columns.gather_columns.Given as goal
 
-abbrev pub invariant-loop-left : goal.invariant-loop-left
-invariant-loop-left l =
-    (l.left ≤ l.n_rows) × Rows (l.n_rows + l.n_active) l.n_active (listed l.terms (stored ByColumns l.n_rows l.n_cols l.theta)) l.initial.s (l.n_rows - l.left) l.s
-
-abbrev pub decreases-loop-left : goal.decreases-loop-left
-decreases-loop-left l = l.left
+abbrev pub invariant-loop-page : goal.invariant-loop-page
+invariant-loop-page l =
+    let n = length l.reduced.terms.now in
+    Rows (l.rows + n) n (listed l.reduced.terms.now (by_columns l.reduced.theta)) l.initial.s (min (32 * l.page) l.rows) l.s

@@ -1,17 +1,27 @@
--- `add_squares` meets its contract. The loop's invariant: the rows passed are taken.
-use mathlib.Core.Path.{refl, sym, ◌∙◌}
-use Prim.Native.Nat.{◌-◌}
+-- `add_squares` meets its contract: a square more.
+use mathlib.Core.Path.{◌≡◌, sym, ap₂, ◌∙◌}
+use mathlib.Core.List.{◌∷◌, ◌++◌, []}
+use Prim.Native.Nat.{◌+◌}
 use native.Mathlib.Omega.{arith}
-use Rattle.steps.specs.Sums.{sum_none, sum_more, sum_end}
+use lib.Ieee.{Float, nan}
+use denote.Ref.{Bor}
+use Rattle.std.proofs.Common.{rules}
+use lib.ListN.{length, length-append}
+use Rattle.std.proofs.lemmas.Slice.Zip.{zip_turn}
+use Rattle.steps.specs.Num.{less}
+use Rattle.steps.specs.Sums.{sum_none, sum_more}
+use Rattle.leftover.specs.Error.{square}
 use Rattle.leftover.proofs.inner.columns.add_squares.Goals as goal
 
-pub loop-m-init : goal.loop-m-init
-loop-m-init c = (omega arith, sym (sum_none _ _ _))
+pub loop-t-init : goal.loop-t-init
+loop-t-init c = sym (sum_none _ _ _)
 
-pub loop-m-preserved : goal.loop-m-preserved
-loop-m-preserved c =
-    let turn = c.loop-m in
-    (omega arith, c.add_square-error.ensures ∙ sum_more _ 0 turn.m _ (omega arith) turn.invariant.1 refl)
-
-pub returns : goal.returns
-returns c = let end = c.loop-m in sum_end _ 0 end.m _ _ end.invariant.1 (omega arith) (omega arith)
+pub loop-t-preserved : goal.loop-t-preserved
+loop-t-preserved c =
+    let xs = c.loop-t.yielded in
+    let pair : Bor Float × Bor Float = (c.in-Some.t, c.in-Some.s) in
+    let here = zip_turn c.args.target.now c.args.sums.now xs c.into_iter-t-iterator.result c.loop-t.t-iterator c.next.new.self _ (search rules) (search rules) c.loop-t.yielded_by pair c.in-Some.is c.next.ensures.steps in
+    let long : length (xs ++ (pair ∷ [])) ≡ length xs + 1 = length-append xs (pair ∷ []) in
+    rw long
+    (c.add_square-error.ensures
+    ∙ sum_more _ 0 (length xs) _ (omega arith) c.loop-t.invariant (ap₂ (λ (x y : Float). square (less x y)) (here.2 nan) (here.3 nan)))

@@ -18,9 +18,9 @@ returns c =
     let a = c.args in
     let ws = a.ws.now in
     -- the room of the kept sums and the block
-    let room = kept_size a.task.cols + length a.b.now * length a.b.now in
+    let room = kept_size a.n_cols + length a.b.now * length a.b.now in
     let made = rw c.few-n_cols.ensures at c.solve_block.ensures in
     let kept = rw c.few-n_cols.ensures at c.solve_block.auto.ws in (
-      ap solution made.values ∙ from_lent a.task.cols room ws (omega arith) c.requires.3 (damps a.damping) a.support.0 c.requires.1,
-      rw c.few-n_cols.ensures (head_left a.task.cols room ws (omega arith) c.requires.3 c.solve_block.new.ws kept made.kept),
+      ap solution made.values ∙ from_lent a.n_cols room ws (omega arith) c.requires.3 (damps a.damping) a.support.0 c.requires.1,
+      rw c.few-n_cols.ensures (head_left a.n_cols room ws (omega arith) c.requires.3 c.solve_block.new.ws kept made.kept),
     )

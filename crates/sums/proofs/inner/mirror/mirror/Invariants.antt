@@ -1,8 +1,7 @@
--- `mirror` meets its contract. The loop's invariant: the rows passed are mirrored, the others as they were.
-use Prim.Native.Nat.{◌-◌, ◌≤◌}
+-- The rows passed are mirrored, the others as they were.
 use Rattle.steps.specs.Rows.{Rows}
 use Rattle.sums.specs.Pages.{upper}
 use Rattle.sums.proofs.inner.mirror.mirror.Given as goal
 
 abbrev pub invariant-loop-p : goal.invariant-loop-p
-invariant-loop-p l = (l.p ≤ l.n_cols) × Rows l.n_cols l.n_cols (upper l.n_cols l.initial.out) l.initial.out l.p l.out
+invariant-loop-p l = Rows l.n_cols l.n_cols (upper l.n_cols l.initial.out) l.initial.out l.p l.out

@@ -1,13 +1,8 @@
--- `add_pages` meets its contract. The loop's invariant: the sums have taken the rows passed.
-use mathlib.Core.Path.{◌≡◌}
-use Prim.Native.Nat.{◌-◌, ◌≤◌}
-use lib.ListN.{length}
-use Rattle.steps.specs.Num.{cell}
+-- The sums have taken the rows of the pages passed.
+use Prim.Native.Nat.{◌*◌, min}
+use Rattle.places.specs.Theta.{entries}
 use Rattle.sums.specs.Pages.{UpperSums}
 use Rattle.sums.proofs.inner.pages.add_pages.Given as goal
 
-abbrev pub invariant-loop-left : goal.invariant-loop-left
-invariant-loop-left l = (l.left ≤ l.n_rows) × (length l.page ≡ length l.initial.page) × UpperSums (cell l.n_cols l.theta) l.n_cols (l.n_rows - l.left) l.out
-
-abbrev pub decreases-loop-left : goal.decreases-loop-left
-decreases-loop-left l = l.left
+abbrev pub invariant-loop-number : goal.invariant-loop-number
+invariant-loop-number g l = UpperSums (entries l.theta) l.theta.cols (min (32 * l.number) l.theta.rows) l.out

@@ -1,12 +1,10 @@
 -- `fill_page` meets its contract: by either layout.
-use native.Mathlib.Nat.{mul-le-mul_right}
-use native.Mathlib.Omega.{arith}
 use Rattle.places.specs.Stored.{stored}
+use Rattle.places.specs.ThetaLaws.{rows_fit}
 use Rattle.sums.proofs.inner.pages.fill_page.Goals as goal
 
 pub fill_rows-requires : goal.fill_rows-requires
-fill_rows-requires c =
-    (omega (arith, c.requires.0.cells, mul-le-mul_right c.args.n_cols c.requires.1), c.requires.2)
+fill_rows-requires c = (rows_fit c.args.theta c.args.i c.args.h c.requires.0, c.requires.1)
 
 pub returns-in-ByRows : goal.returns-in-ByRows
 unfolding stored

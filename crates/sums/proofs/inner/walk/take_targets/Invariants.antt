@@ -1,10 +1,7 @@
--- `take_targets` meets its contract. The loop's invariant: the sums have taken the rows passed.
-use mathlib.Core.Path.{◌≡◌}
-use Prim.Native.Nat.{◌-◌, ◌≤◌}
-use lib.ListN.{length}
+-- The sums have taken the rows passed.
 use Rattle.sums.specs.Inner.{Filled}
 use Rattle.sums.specs.Pages.{with_targets}
 use Rattle.sums.proofs.inner.walk.take_targets.Given as goal
 
 abbrev pub invariant-loop-k : goal.invariant-loop-k
-invariant-loop-k l = (l.k ≤ l.h) × (length l.sums ≡ length l.initial.sums) × Filled l.n_cols (with_targets l.page l.n_cols l.k l.target l.i l.initial.sums) l.sums
+invariant-loop-k l = Filled l.n_cols (with_targets l.page l.n_cols l.k l.target l.i l.initial.sums) l.sums

@@ -1,0 +1,2 @@
+-- Laws of what is read. Assumes nothing.
+mod Bytes
