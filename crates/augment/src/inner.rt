@@ -16,7 +16,7 @@ use crate::inner::columns::gather_columns;
 use float64::sqrt;
 use places::inner::{at_place, kept_columns};
 use places::{Layout, Reduced, Theta};
-use slices::inner::{clear, put};
+use slices::inner::{clear, copy, put};
 use support::{Col, Support};
 
 // A number of the refit's matrix goes to a row and a reduced place, never to a term number.
@@ -109,5 +109,5 @@ pub fn pad(target: &[f64], n_active: usize, b: &mut [f64])
     let n_rows = target.len();
     let m = n_rows + n_active;
     clear(b, m);
-    b[..n_rows].copy_from_slice(target);
+    copy(target, &mut b[..n_rows]);
 }

@@ -6,7 +6,7 @@ ghost use Rattle.householder.specs.Qr as Q;
 ghost use Rattle.decomp.specs.Sizes.{QrSized};
 
 use householder::inner::factor;
-use slices::inner::clear;
+use slices::inner::{clear, copy};
 
 // QR into `data` and `betas`; m numbers of the workspace are cleared.
 pub fn qr_ready(
@@ -20,7 +20,7 @@ pub fn qr_ready(
     requires { (QrSized m n (length a.now) (length «data».old) (length betas.old)) × (m ≤ length workspace.old) }
     ensures { («data».new ≡ after m n a.now n) × (betas.new ≡ Q.betas m n a.now) × (workspace.new ≡ cleared m workspace.old) }
 {
-    data.copy_from_slice(a);
+    copy(a, data);
     factor(data, betas, m, n);
     clear(workspace, m);
 }

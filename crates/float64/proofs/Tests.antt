@@ -1,20 +1,31 @@
--- What the tests `is_nan`, `x == 0.0` and `x < 0.0` say of a value, and the greater of two. Assumes nothing.
+-- What the tests `x != x`, `is_nan`, `x == 0.0` and `x < 0.0` say of a value, and the greater of two. Assumes nothing.
 use Rattle.std.proofs.Common.{◌≡◌, ℕ, zero, suc, ◌+◌, ◌*◌, ◌%◌, ◌^◌, ◌<◌, Bool, true, false, cond, not, ◌&&◌, ◌||◌, T, eqb, ℤ, sym, refl, ap, ◌∙◌, subst, true≢false, zero-lt-suc, mul-pos, zero-mul, mul-one, arith, eqb→eq, le-ltb, eq-eqb}
 use mathlib.Core.Bool.{beq}
-use lib.Ieee.{Float, binary64, nan, inf, fin, up, down, lt, is_nan, nan_bits}
+use lib.Ieee.{Float, binary64, nan, inf, fin, up, down, lt, is_nan, ne, nan_bits}
 use lib.Ieee.Bits.{nan_bits_above, cond_no}
+use lib.Ieee.Compare.{differs_from_itself}
 use lib.Ieee.Fits.{up_pos, and_l}
 use Rattle.float64.specs.Root.{greater_of}
 
--- ---- is_nan
-pub is_nan_lem : (x : Float) → is_nan x ≡ true → x ≡ nan
-unfolding is_nan
-is_nan_lem nan h = refl
-is_nan_lem (inf s) h = absurd (true≢false (sym h))
-is_nan_lem (fin s m e) h = absurd (true≢false (sym h))
+-- ---- x != x
+pub is_nan_lem : (x : Float) → ne x x ≡ true → x ≡ nan
+is_nan_lem x h = differs_from_itself x (subst T (sym h) tt)
 
-pub no_nan : (x : Float) → is_nan x ≡ false → T (not (is_nan x))
-no_nan x h = subst (λ (t : Bool). T (not t)) (sym h) tt
+pub no_nan : (x : Float) → ne x x ≡ false → T (not (is_nan x))
+unfolding ne is_nan
+no_nan nan h = absurd (true≢false h)
+no_nan (inf s) h = tt
+no_nan (fin s m e) h = tt
+
+-- ---- is_nan
+pub told_nan : (x : Float) → is_nan x ≡ true → x ≡ nan
+unfolding is_nan
+told_nan nan h = refl
+told_nan (inf s) h = absurd (true≢false (sym h))
+told_nan (fin s m e) h = absurd (true≢false (sym h))
+
+pub told_number : (x : Float) → is_nan x ≡ false → T (not (is_nan x))
+told_number x h = subst (λ (t : Bool). T (not t)) (sym h) tt
 
 -- what is below the infinity's pattern is no NaN's
 pub below_inf : (r : ℕ) → r < 0x7ff0_0000_0000_0000 → T (not (nan_bits binary64 r))

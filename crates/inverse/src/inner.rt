@@ -7,7 +7,7 @@ ghost use Rattle.inverse.specs.ByColumns.{ByColumns};
 use crate::rows::{back_rows, forward_rows};
 use cholesky::inner::cholesky_factor;
 use refusal::Solved;
-use slices::inner::{Square, put};
+use slices::inner::{Square, copy, put};
 
 // All unit columns, side by side.
 fn units(x: &mut [f64], n: usize)
@@ -35,7 +35,7 @@ pub fn invert(a: Square, out: &mut [f64], ws: &mut [f64]) -> Solved
     requires { (length out.old ≡ a.n * a.n) × (length ws.old ≡ a.n * a.n) }
     ensures { told result out.new ≡ invert a.entry.n a.entry.numbers.now out.old }
 {
-    ws.copy_from_slice(a.numbers);
+    copy(a.numbers, ws);
     cholesky_factor(ws, a.n)?;
     inverse_of(
         Square {

@@ -8,6 +8,7 @@ ghost use Rattle.least.specs.Least.{above, back_column, back, values, least};
 use float64::abs;
 use householder::inner::factor;
 use refusal::Solved;
+use slices::inner::copy;
 use transpose::inner::Factor;
 
 // The entries above row j lose their part of column j.
@@ -78,7 +79,7 @@ pub fn least_of(a: &[f64], b: &[f64], s: &mut [f64], m: usize, n: usize) -> Solv
     ensures { values n (told result (drop (m * n) s.new)) ≡ least m n a.now b.now }
 {
     let (matrix, right) = s.split_at_mut(m * n);
-    matrix.copy_from_slice(a);
-    right.copy_from_slice(b);
+    copy(a, matrix);
+    copy(b, right);
     least_packed(s, m, n)
 }

@@ -7,6 +7,7 @@ use native.Mathlib.Omega.{arith}
 use lib.ListN.{get_or, replicate, get_or-replicate}
 use lib.Ieee.{Float}
 use Rattle.steps.specs.Num.{plus, less, times, +zero, at, Entry}
+use Rattle.steps.specs.Space.{cleared, at_cleared}
 use Rattle.steps.specs.Sums.{sum, sum_none, sum_more, sum_cong, sum_on}
 use Rattle.steps.specs.Wrote.{Wrote}
 use Rattle.places.specs.Columns.{listed}
@@ -65,8 +66,11 @@ module _ (k : ℕ) (e : Entry) (t cs : ℕ → Float) where
 
 -- the sums of h rows side by side: before the first term, after one more, and their squares
 module _ (e : Entry) (cs : ℕ → Float) (i h : ℕ) where
-  pub sums_none : (s : List Float) → s ≡ replicate h +zero → RowSums 0 e cs i h s
-  sums_none s q = record { each = λ m l. rw (q, get_or-replicate) (products_none (e (i + m)) cs) }
+  pub sums_none : (s : List Float) → RowSums 0 e cs i h (cleared h s)
+  sums_none s = record { each = λ m l. at_cleared h m s l ∙ products_none (e (i + m)) cs }
+
+  pub sums_filled : (s : List Float) → s ≡ replicate h +zero → RowSums 0 e cs i h s
+  sums_filled s q = record { each = λ m l. rw (q, get_or-replicate) (products_none (e (i + m)) cs) }
 
   pub sums_more : (p : ℕ) (s s' : List Float) (column : ℕ → Float) {x : Float} → RowSums p e cs i h s → Wrote (λ m. m) 0 h (λ m. plus (at s m) (times (column m) x)) s s'
       → ((m : ℕ) → column m ≡ e (i + m) p) → x ≡ cs p → RowSums (p + 1) e cs i h s'

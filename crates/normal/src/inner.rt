@@ -6,16 +6,16 @@ ghost use Rattle.normal.specs.Normal.{normal};
 use cholesky::inner::cholesky;
 use lu::inner::lu;
 use refusal::Solved;
-use slices::inner::Square;
+use slices::inner::{Square, copy};
 
 // The copy is made in ws, of as many numbers as a.
 pub fn normal_equations(a: Square, b: &mut [f64], ws: &mut [f64]) -> Solved
     requires { (length b.old ≡ a.n) × (length ws.old ≡ a.n * a.n) }
     ensures { told result b.new ≡ normal a.entry.n a.entry.numbers.now b.old }
 {
-    ws.copy_from_slice(a.numbers);
+    copy(a.numbers, ws);
     if cholesky(ws, b, a.n).is_err() {
-        ws.copy_from_slice(a.numbers);
+        copy(a.numbers, ws);
         return lu(ws, b, a.n);
     }
     Ok(())

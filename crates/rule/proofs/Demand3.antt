@@ -1,4 +1,4 @@
--- Demand 3, over calls of `strlsq`, `strlsq_qr` and `strlsq_marquardt`, whose contract is `FitCall`: what two calls on the same data give, and how far one goes.
+-- Demand 3, over calls of `strlsq`, by any solver and layout, whose contract is `FitCall`: what two calls on the same data give, and how far one goes.
 -- A call fits if it answers a report, and it does so exactly where no refusal applies.
 use Rattle.std.specs.Prelude.{Ok, ◌≡◌, ◌≢◌, List, ℕ, ◌+◌, ◌≤◌, T, length, Float, Result}
 use Rattle.std.proofs.Math.Path.{sym, ap}

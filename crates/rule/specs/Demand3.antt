@@ -1,4 +1,4 @@
--- Demand 3, over calls of `strlsq`, `strlsq_qr` and `strlsq_marquardt`, whose contract is `FitCall`: what two calls on the same data give, and how far one goes, is shown in proofs/Demand3.
+-- Demand 3, over calls of `strlsq`, by any solver and layout, whose contract is `FitCall`: what two calls on the same data give, and how far one goes, is shown in proofs/Demand3.
 -- A call fits if it answers a report, and it does so exactly where no refusal applies. Assumes nothing.
 use Rattle.std.specs.Prelude.{◌≡◌, List, ℕ, ◌≤◌, length, Float, Result}
 use Rattle.rule.specs.declared.Task.{Task}

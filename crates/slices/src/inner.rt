@@ -36,6 +36,16 @@ pub fn clear(s: &mut [f64], k: usize)
     s[..k].fill(0.0);
 }
 
+// A slice of the same length becomes another. Written out, since the library's `copy_from_slice` makes the archive for C need `memmove`.
+pub fn copy(from: &[f64], to: &mut [f64])
+    requires { length from.now ≡ length to.old }
+    ensures { to.new ≡ from.now }
+{
+    for (k, x) in to.iter_mut().enumerate() {
+        *x = from[k];
+    }
+}
+
 // A square matrix of n columns, by rows, in lent numbers that are only read.
 #[derive(Clone, Copy)]
 pub struct Square<'a> {

@@ -13,7 +13,7 @@ use inverse::inner::invert;
 use least::inner::least_of;
 use normal::inner::normal_equations;
 use refusal::{Answer, Refusal, Solved};
-use slices::inner::{Square, clear};
+use slices::inner::{Square, clear, copy};
 
 // The normal equations of sizes that nothing refuses: in n * n numbers of the workspace, which are cleared.
 pub fn normal_ready(a: &[f64], b: &mut [f64], n: usize, workspace: &mut [f64]) -> Solved
@@ -44,7 +44,7 @@ fn least_into(a: &[f64], b: &[f64], m: usize, n: usize, out: &mut [f64], ws: &mu
 {
     let mn = a.len();
     least_of(a, b, ws, m, n).map_err(Refusal::SmallPivot)?;
-    out.copy_from_slice(&ws[mn..mn + n]);
+    copy(&ws[mn..mn + n], out);
     Ok(())
 }
 

@@ -10,6 +10,7 @@ use augment::inner::{augment, pad};
 use least::inner::least_packed;
 use refusal::Solved;
 use rule::{Given, Solver};
+use slices::inner::copy;
 use support::Support;
 
 // The values stand at the head of the right-hand side, behind the matrix.
@@ -42,6 +43,6 @@ pub fn solve_qr(given: Given, support: Support, b: &mut [f64], ws: &mut [f64]) -
     let f = e + m;
     let h = e + n_active;
     let solved = qr_values(given, support, n_active, &mut ws[0..f]);
-    b.copy_from_slice(&ws[e..h]);
+    copy(&ws[e..h], b);
     solved
 }

@@ -9,6 +9,7 @@ use crate::inner::columns::fill_columns;
 use pairs::inner::add_page;
 use pairs::page::Page;
 use places::{Layout, Theta};
+use slices::inner::copy;
 
 // A page takes the h rows from row i on, as they stand, of theta by rows.
 fn fill_rows(theta: &[f64], n_cols: usize, i: usize, h: usize, page: &mut [f64])
@@ -17,7 +18,7 @@ fn fill_rows(theta: &[f64], n_cols: usize, i: usize, h: usize, page: &mut [f64])
 {
     let from = i * n_cols;
     let long = h * n_cols;
-    page[..long].copy_from_slice(&theta[from..from + long]);
+    copy(&theta[from..from + long], &mut page[..long]);
 }
 
 // By either: nothing else of a fit by sums knows how theta is stored.
@@ -31,7 +32,8 @@ pub fn fill_page(theta: Theta<'_>, i: usize, h: usize, page: &mut [f64])
     }
 }
 
-// The page that begins with row i, in the room that is lent for it: 32 rows, or those that are left.
+// The page that begins with row i, in the room that is lent for it: 32 rows, or those that are left. Drawn in where it is called: of few columns a call a page shows.
+#[inline(always)]
 pub fn page_at<'a>(theta: Theta<'_>, i: usize, room: &'a mut [f64]) -> Page<'a>
     requires { (i ≤ theta.rows) × (32 * theta.cols ≤ length room.old) }
     ensures cols { result.cols ≡ theta.entry.cols }

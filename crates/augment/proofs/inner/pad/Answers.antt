@@ -5,4 +5,4 @@ use Rattle.augment.proofs.inner.pad.Goals as goal
 pub returns : goal.returns
 returns c =
     let args = c.args in
-    padded_is args.n_active args.target.now c.copy_from_slice.new.self args.b.now c.clear.new.s c.requires.2 c.copy_from_slice.ensures.after c.clear.ensures
+    padded_is args.n_active args.target.now c.copy.new.to args.b.now c.clear.new.s c.requires.2 c.copy.ensures c.clear.ensures

@@ -18,4 +18,4 @@ returns c =
     let cells = c.requires.0.cells in
     let wide : length args.a.now + args.n - length args.a.now ≡ args.n = omega arith in
     let i = mapped SmallPivot c.least_of.result c.map_err.result (λ c y e. e) c.map_err.ensures.cases in
-    least_solves _ _ _ i c.in_ok-map_err.was c.least_of.ensures (c.copy_from_slice.ensures.after ∙ rw (wide, cells))
+    least_solves _ _ _ i c.in_ok-map_err.was c.least_of.ensures (c.copy.ensures ∙ rw (wide, cells))

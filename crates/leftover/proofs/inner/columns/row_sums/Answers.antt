@@ -6,11 +6,11 @@ use lib.ListN.{length}
 use Rattle.places.specs.Stored.{stored}
 use Rattle.places.specs.Theta.{by_columns}
 use Rattle.leftover.specs.Fits.{kept_entries}
-use Rattle.leftover.proofs.Walks.{entry_listed, coeff_listed, sums_none, sums_more}
+use Rattle.leftover.proofs.Walks.{entry_listed, coeff_listed, sums_filled, sums_more}
 use Rattle.leftover.proofs.inner.columns.row_sums.Goals as goal
 
 pub loop-p-init : goal.loop-p-init
-loop-p-init c = sums_none _ _ _ _ _ (c.fill.ensures.after (λ y e. e))
+loop-p-init c = sums_filled _ _ _ _ _ (c.fill.ensures.after (λ y e. e))
 
 pub coeff_of-x-requires : goal.coeff_of-x-requires
 coeff_of-x-requires c =

@@ -15,4 +15,4 @@ unfolding with_part
 returns c =
     let fits = least_fits c.requires.0 c.requires.1 c.requires.2 in
     let values = read c.args.given.task _ c.args.ws.now c.qr_values-solved.new.ws fits c.qr_values-solved.auto.ws in
-    read_out c.qr_values-solved.result _ _ _ (c.copy_from_slice.ensures.after ∙ values) c.qr_values-solved.ensures
+    read_out c.qr_values-solved.result _ _ _ (c.copy.ensures ∙ values) c.qr_values-solved.ensures

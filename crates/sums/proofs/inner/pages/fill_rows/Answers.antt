@@ -14,7 +14,7 @@ returns c =
     let a = c.args in
     let m = a.h * a.n_cols in
     let from = a.i * a.n_cols in
-    let copied = c.copy_from_slice.ensures in
-    let long : length c.copy_from_slice.new.self ≡ m = copied.len ∙ length-take-le m a.page.now c.requires.1 in
+    let copied = c.copy.ensures in
+    let long : length c.copy.new.to ≡ m = c.copy.auto.to ∙ length-take-le m a.page.now c.requires.1 in
     holds_rows a.theta.now a.n_cols a.i a.h m _ (omega arith) (λ k l.
-    get_or-append c.copy_from_slice.new.self _ nan k (omega arith) ∙ rw copied.after (at_part from (from + m) a.theta.now k (omega arith)))
+    get_or-append c.copy.new.to _ nan k (omega arith) ∙ rw copied (at_part from (from + m) a.theta.now k (omega arith)))
